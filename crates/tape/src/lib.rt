@@ -1,0 +1,12 @@
+// The session tape: its records, a reader and a writer, and the lines of text that tell what is on it.
+
+pub mod record;
+
+pub use record::Amendment;
+pub use record::Bands;
+pub use record::Cancellation;
+pub use record::Clock;
+pub use record::Entry;
+pub use record::Group;
+pub use record::Kind;
+pub use record::Record;

@@ -1,0 +1,220 @@
+// The records of a session tape, with fields as wide as the tape has them.
+ghost use mathlib.Core.Path.{_≡_};
+ghost use Prim.Native.Nat.{_≤_};
+ghost use lib.ListN.{take};
+ghost use Rattle.std.specs.Options.{Cases};
+ghost use Rattle.tape.specs.Records.{fieldsOf, kindOf, letterOf, lengthOf};
+
+// The kinds of record, each with its letter on the tape.
+#[derive(Clone, Copy, PartialEq, Eq, Debug)]
+pub enum Kind {
+    Group = b'G' as isize,
+    Buy = b'B' as isize,
+    Sell = b'S' as isize,
+    Amendment = b'A' as isize,
+    Cancellation = b'X' as isize,
+    AuctionCall = b'L' as isize,
+    Clock = b'T' as isize,
+}
+
+// The ends of the three ranges, as distances from the base price.
+#[derive(Clone, Copy, PartialEq, Eq, Debug)]
+pub struct Bands {
+    pub buy_low: i32,
+    pub buy_high: i32,
+    pub sell_low: i32,
+    pub sell_high: i32,
+    pub auction_low: i32,
+    pub auction_high: i32,
+}
+
+// The group sheet and the tunnel. `liquid` is 1 for a liquid group and 0 for a less liquid one,
+// and `form` is the letter of the tunnel's kind; the tape carries any byte in either.
+#[derive(Clone, Copy, PartialEq, Eq, Debug)]
+pub struct Group {
+    pub tick: u32,
+    pub greatest_quantity: u32,
+    pub liquid: u8,
+    pub settlement: u32,
+    pub form: u8,
+    pub bands: Bands,
+}
+
+// An order to buy or to sell.
+#[derive(Clone, Copy, PartialEq, Eq, Debug)]
+pub struct Entry {
+    pub member: u16,
+    pub price: u32,
+    pub quantity: u32,
+}
+
+// A new price and a new remaining quantity for the order of that number.
+#[derive(Clone, Copy, PartialEq, Eq, Debug)]
+pub struct Amendment {
+    pub member: u16,
+    pub number: u32,
+    pub price: u32,
+    pub quantity: u32,
+}
+
+// The order of that number is taken back.
+#[derive(Clone, Copy, PartialEq, Eq, Debug)]
+pub struct Cancellation {
+    pub member: u16,
+    pub number: u32,
+}
+
+// The clock shows a new second, and brings a draw.
+#[derive(Clone, Copy, PartialEq, Eq, Debug)]
+pub struct Clock {
+    pub second: u32,
+    pub draw: u16,
+}
+
+// A record of a session tape.
+#[derive(Clone, Copy, PartialEq, Eq, Debug)]
+pub enum Record {
+    Group(Group),
+    Buy(Entry),
+    Sell(Entry),
+    Amendment(Amendment),
+    Cancellation(Cancellation),
+    AuctionCall,
+    Clock(Clock),
+}
+
+// A field of a record: a plain number of one, two or four bytes, a band, or the letter of a form.
+#[derive(Clone, Copy)]
+pub(crate) enum Field {
+    Byte(u8),
+    Two(u16),
+    Four(u32),
+    Band(i32),
+    Form(u8),
+}
+
+// No record has more fields than the group's.
+pub(crate) const MOST_FIELDS: usize = 11;
+
+// The fields of a record in the tape's order: the first `count` of `items`.
+#[derive(Clone, Copy)]
+pub(crate) struct Fields {
+    pub(crate) items: [Field; MOST_FIELDS],
+    pub(crate) count: usize,
+}
+
+impl Kind {
+    // The letter that stands for the kind on the tape.
+    pub fn letter(self) -> u8
+        ensures { λ r. ⌜ r ≡ letterOf self ⌝ }
+    {
+        self as u8
+    }
+}
+
+impl Kind {
+    // The kind that a letter of the tape stands for.
+    pub fn of_letter(letter: u8) -> Option<Kind>
+        ensures { λ r. ⌜ Cases r ((k : Kind) → letterOf k ≡ letter → ⊥) (λ k. letterOf k ≡ letter) ⌝ }
+    {
+        match char::from(letter) {
+            'G' => Some(Kind::Group),
+            'B' => Some(Kind::Buy),
+            'S' => Some(Kind::Sell),
+            'A' => Some(Kind::Amendment),
+            'X' => Some(Kind::Cancellation),
+            'L' => Some(Kind::AuctionCall),
+            'T' => Some(Kind::Clock),
+            _ => None,
+        }
+    }
+
+    // The length that a record of the kind has on the tape, without the two bytes that tell it.
+    pub fn length(self) -> usize
+        ensures { λ r. ⌜ r ≡ lengthOf self ⌝ }
+    {
+        match self {
+            Kind::Group => 39,
+            Kind::Buy | Kind::Sell => 11,
+            Kind::Amendment => 15,
+            Kind::Cancellation | Kind::Clock => 7,
+            Kind::AuctionCall => 1,
+        }
+    }
+}
+
+impl Record {
+    pub fn kind(&self) -> Kind
+        ensures { λ r. ⌜ r ≡ kindOf (now (self .entry)) ⌝ }
+    {
+        match self {
+            Record::Group(_) => Kind::Group,
+            Record::Buy(_) => Kind::Buy,
+            Record::Sell(_) => Kind::Sell,
+            Record::Amendment(_) => Kind::Amendment,
+            Record::Cancellation(_) => Kind::Cancellation,
+            Record::AuctionCall => Kind::AuctionCall,
+            Record::Clock(_) => Kind::Clock,
+        }
+    }
+
+    // The fields in the tape's order.
+    pub(crate) fn fields(&self) -> Fields
+        ensures count { λ r. ⌜ r .count ≤ 11 ⌝ }
+        ensures items { λ r. ⌜ take (r .count) (r .items) ≡ fieldsOf (now (self .entry)) ⌝ }
+    {
+        let mut items = [Field::Byte(0); MOST_FIELDS];
+        let count = match self {
+            Record::Group(g) => {
+                items = g.fields();
+                MOST_FIELDS
+            }
+            Record::Buy(e) | Record::Sell(e) => {
+                items[0] = Field::Two(e.member);
+                items[1] = Field::Four(e.price);
+                items[2] = Field::Four(e.quantity);
+                3
+            }
+            Record::Amendment(a) => {
+                items[0] = Field::Two(a.member);
+                items[1] = Field::Four(a.number);
+                items[2] = Field::Four(a.price);
+                items[3] = Field::Four(a.quantity);
+                4
+            }
+            Record::Cancellation(x) => {
+                items[0] = Field::Two(x.member);
+                items[1] = Field::Four(x.number);
+                2
+            }
+            Record::AuctionCall => 0,
+            Record::Clock(t) => {
+                items[0] = Field::Four(t.second);
+                items[1] = Field::Two(t.draw);
+                2
+            }
+        };
+        Fields { items, count }
+    }
+}
+
+impl Group {
+    fn fields(&self) -> [Field; MOST_FIELDS]
+        ensures { λ r. ⌜ r ≡ fieldsOf (Record.Group (now (self .entry))) ⌝ }
+    {
+        let bands = self.bands;
+        [
+            Field::Four(self.tick),
+            Field::Four(self.greatest_quantity),
+            Field::Byte(self.liquid),
+            Field::Four(self.settlement),
+            Field::Form(self.form),
+            Field::Band(bands.buy_low),
+            Field::Band(bands.buy_high),
+            Field::Band(bands.sell_low),
+            Field::Band(bands.sell_high),
+            Field::Band(bands.auction_low),
+            Field::Band(bands.auction_high),
+        ]
+    }
+}
