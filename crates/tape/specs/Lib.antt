@@ -1,2 +1,5 @@
 pub mod Bytes
 pub mod Records
+pub mod Drafts
+pub mod Buffers
+pub mod Lines

@@ -1,5 +1,7 @@
 // The session tape: its records, a reader and a writer, and the lines of text that tell what is on it.
 
+mod buffer;
+mod draft;
 pub mod record;
 
 pub use record::Amendment;

@@ -1,0 +1,52 @@
+// How the fields of a record go into a draft.
+ghost use mathlib.Core.Path.{_≡_};
+ghost use mathlib.Core.List.{_++_};
+ghost use Prim.Native.Nat.{_+_, _≤_};
+ghost use Rattle.tape.specs.Drafts.{drafted};
+ghost use Rattle.tape.specs.Lines.{shown, formShown};
+ghost use Rattle.tape.specs.Records.{spelled};
+use super::Draft;
+use crate::record::Field;
+
+impl Draft {
+    // A field in the bytes that spell it on the tape.
+    pub(crate) fn spelled_field(&mut self, field: Field)
+        requires { ⌜ now self .len + 4 ≤ 256 ⌝ }
+        ensures text { λ _. ⌜ drafted (now (self .exit)) ≡ drafted (now (self .entry)) ++ spelled field ⌝ }
+        ensures bound { λ _. ⌜ now (self .exit) .len ≤ now (self .entry) .len + 4 ⌝ }
+    {
+        match field {
+            Field::Byte(n) | Field::Form(n) => self.byte(n),
+            Field::Two(n) => self.all(&n.to_be_bytes()),
+            Field::Four(n) => self.all(&n.to_be_bytes()),
+            Field::Band(z) => self.all(&z.to_be_bytes()),
+        }
+    }
+
+    // A form: its letter where there is such a form, else the byte as a number.
+    fn form(&mut self, form: u8)
+        requires { ⌜ now self .len + 20 ≤ 256 ⌝ }
+        ensures text { λ _. ⌜ drafted (now (self .exit)) ≡ drafted (now (self .entry)) ++ formShown form ⌝ }
+        ensures bound { λ _. ⌜ now (self .exit) .len ≤ now (self .entry) .len + 20 ⌝ }
+    {
+        match char::from(form) {
+            'A' | 'W' => self.byte(form),
+            _ => self.number(u64::from(form)),
+        }
+    }
+
+    // A field as text.
+    pub(crate) fn shown_field(&mut self, field: Field)
+        requires { ⌜ now self .len + 21 ≤ 256 ⌝ }
+        ensures text { λ _. ⌜ drafted (now (self .exit)) ≡ drafted (now (self .entry)) ++ shown field ⌝ }
+        ensures bound { λ _. ⌜ now (self .exit) .len ≤ now (self .entry) .len + 21 ⌝ }
+    {
+        match field {
+            Field::Byte(n) => self.number(u64::from(n)),
+            Field::Two(n) => self.number(u64::from(n)),
+            Field::Four(n) => self.number(u64::from(n)),
+            Field::Band(z) => self.signed_number(z),
+            Field::Form(n) => self.form(n),
+        }
+    }
+}
