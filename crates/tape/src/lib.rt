@@ -2,7 +2,9 @@
 
 mod buffer;
 mod draft;
+pub mod lines;
 pub mod record;
+mod writer;
 
 pub use record::Amendment;
 pub use record::Bands;

@@ -1,9 +1,11 @@
 // How the fields of a record go into a draft.
 ghost use mathlib.Core.Path.{_≡_};
 ghost use mathlib.Core.List.{_++_};
-ghost use Prim.Native.Nat.{_+_, _≤_};
+ghost use Prim.Native.Nat.{_+_, _*_, _≤_};
+ghost use lib.ListN.{length};
+ghost use Rattle.std.specs.Joined.{joined};
 ghost use Rattle.tape.specs.Drafts.{drafted};
-ghost use Rattle.tape.specs.Lines.{shown, formShown};
+ghost use Rattle.tape.specs.Lines.{blank, shown, formShown};
 ghost use Rattle.tape.specs.Records.{spelled};
 use super::Draft;
 use crate::record::Field;
@@ -47,6 +49,28 @@ impl Draft {
             Field::Four(n) => self.number(u64::from(n)),
             Field::Band(z) => self.signed_number(z),
             Field::Form(n) => self.form(n),
+        }
+    }
+
+    // All the fields in the bytes that spell them.
+    pub(crate) fn spelled_fields(&mut self, fields: &[Field])
+        requires { ⌜ now self .len + 4 * length (now fields) ≤ 256 ⌝ }
+        ensures { λ _. ⌜ drafted (now (self .exit)) ≡ drafted (now (self .entry)) ++ joined spelled (now (fields .entry)) ⌝ }
+    {
+        for field in fields {
+            self.spelled_field(*field);
+        }
+    }
+
+    // All the fields as text, with a blank before each.
+    pub(crate) fn shown_fields(&mut self, fields: &[Field])
+        requires { ⌜ now self .len + 22 * length (now fields) ≤ 256 ⌝ }
+        ensures text { λ _. ⌜ drafted (now (self .exit)) ≡ drafted (now (self .entry)) ++ joined (λ f. blank (shown f)) (now (fields .entry)) ⌝ }
+        ensures bound { λ _. ⌜ now (self .exit) .len ≤ now (self .entry) .len + 22 * length (now (fields .entry)) ⌝ }
+    {
+        for field in fields {
+            self.byte(b' ');
+            self.shown_field(*field);
         }
     }
 }
