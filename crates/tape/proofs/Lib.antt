@@ -1,1 +1,6 @@
 pub mod Grown
+pub mod Numbers
+pub mod Behind
+pub mod Letters
+pub mod Framed
+pub mod Reading

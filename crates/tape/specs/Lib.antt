@@ -3,3 +3,4 @@ pub mod Records
 pub mod Drafts
 pub mod Buffers
 pub mod Lines
+pub mod Tapes

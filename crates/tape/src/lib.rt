@@ -2,8 +2,10 @@
 
 mod buffer;
 mod draft;
+mod fields;
 pub mod lines;
 pub mod record;
+pub mod reader;
 mod writer;
 
 pub use record::Amendment;
@@ -13,4 +15,5 @@ pub use record::Clock;
 pub use record::Entry;
 pub use record::Group;
 pub use record::Kind;
+pub use reader::Reader;
 pub use record::Record;

@@ -1,0 +1,13 @@
+use mathlib.Core.Path.{_≡_, ap}
+use mathlib.Core.List.{[]}
+use native.Mathlib.Omega.{arith}
+use lib.ListN.{length}
+use Rattle.std.proofs.shelf.Lists.{nil-from-length}
+use Rattle.tape.specs.declared.record.Field.the-variants.{Four, Two}
+use Rattle.tape.proofs.Behind.{behind}
+use Rattle.tape.proofs.record.Cancellation.read.Needs as need
+
+pub returns : need.returns
+returns c =
+    let none : c .four-number .result .1 .now ≡ [] = nil-from-length (c .four-number .result .1 .now) (omega (arith, ap length (c .two-member .ensures), ap length (c .four-number .ensures))) in
+    behind (Two (c .two-member .result .0)) (c .two-member .ensures) (behind (Four (c .four-number .result .0)) (c .four-number .ensures) none)
