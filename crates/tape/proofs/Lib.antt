@@ -4,3 +4,5 @@ pub mod Behind
 pub mod Letters
 pub mod Framed
 pub mod Reading
+pub mod Decoded
+pub mod Laws

@@ -4,3 +4,4 @@ pub mod Drafts
 pub mod Buffers
 pub mod Lines
 pub mod Tapes
+pub mod Laws

@@ -1,13 +1,14 @@
 // Reading a tape, record by record.
 ghost use mathlib.Core.Path.{_≡_};
-ghost use mathlib.Core.List.{_++_};
+ghost use mathlib.Core.List.{_++_, []};
 ghost use mathlib.Core.Logic.{_⊎_};
 ghost use Prim.Native.Nat.{_<_};
 ghost use lib.ListN.{length, getD, take, drop};
 ghost use Rattle.std.specs.Results.{Cases};
 ghost use Rattle.rules.specs.declared.refusal.Refusal.the-variants.{RecordCutShort, NoRecordOfThisKindHere};
+ghost use Rattle.tape.specs.Laws.{GoesOn, OnlyAnswer, WritesBack};
 ghost use Rattle.tape.specs.Records.{kindOf, letterOf, spelling, RecordFits};
-ghost use Rattle.tape.specs.Tapes.{NotOpened, Versioned, TooLong, stated, CutShort, MayStand, Faulty, Reads};
+ghost use Rattle.tape.specs.Tapes.{NotOpened, Versioned, TooLong, stated, CutShort, MayStand, Faulty, Reads, ReadUpTo};
 use crate::record::Kind;
 use crate::record::Record;
 use rules::MOST_TAPE_BYTES;
@@ -70,7 +71,7 @@ fn record_at(place: usize, rest: &[u8]) -> Result<(Record, usize), Refusal>
 impl<'a> Reader<'a> {
     // Opens a tape: the reader stands before its first record.
     pub fn open(tape: &'a [u8]) -> Result<Reader<'a>, Refusal>
-        ensures { λ r. ⌜ Cases r (λ reader. Versioned (now (tape .entry)) × (TooLong (now (tape .entry)) → ⊥) × (now (reader .tape) ≡ now (tape .entry)) × (reader .place ≡ 1)) (NotOpened (now (tape .entry))) ⌝ }
+        ensures { λ r. ⌜ Cases r (λ reader. Versioned (now (tape .entry)) × (TooLong (now (tape .entry)) → ⊥) × (now (reader .tape) ≡ now (tape .entry)) × (reader .place ≡ 1) × ReadUpTo (now (tape .entry)) 1 []) (NotOpened (now (tape .entry))) ⌝ }
     {
         match tape {
             [VERSION, ..] if tape.len() <= MOST_TAPE_BYTES => Ok(Reader {
@@ -92,6 +93,9 @@ impl<'a> Reader<'a> {
     // The next record, or `None` behind the last one. A refused reader stays before the record.
     pub fn next_record(&mut self) -> Result<Option<Record>, Refusal>
         ensures reads { λ r. ⌜ Reads (now (now (self .entry) .tape)) (now (self .entry) .place) r (now (self .exit) .place) ⌝ }
+        ensures only { λ r. ⌜ OnlyAnswer (now (now (self .entry) .tape)) (now (self .entry) .place) r (now (self .exit) .place) ⌝ }
+        ensures written { λ r. ⌜ WritesBack (now (now (self .entry) .tape)) (now (self .entry) .place) r (now (self .exit) .place) ⌝ }
+        ensures goes_on { λ r. ⌜ GoesOn (now (now (self .entry) .tape)) (now (self .entry) .place) r (now (self .exit) .place) ⌝ }
         ensures same { λ _. ⌜ now (now (self .exit) .tape) ≡ now (now (self .entry) .tape) ⌝ }
     {
         if self.place >= self.tape.len() {

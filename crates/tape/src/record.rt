@@ -3,7 +3,7 @@ ghost use mathlib.Core.Path.{_≡_};
 ghost use Prim.Native.Nat.{_≤_};
 ghost use lib.ListN.{take};
 ghost use Rattle.std.specs.Options.{Cases};
-ghost use Rattle.tape.specs.Records.{fieldsOf, kindOf, letterOf, lengthOf};
+ghost use Rattle.tape.specs.Records.{fieldsOf, kindOf, letterOf, lengthOf, RecordFits};
 
 // The kinds of record, each with its letter on the tape.
 #[derive(Clone, Copy, PartialEq, Eq, Debug)]
@@ -159,9 +159,10 @@ impl Record {
     }
 
     // The fields in the tape's order.
-    pub(crate) fn fields(&self) -> Fields
+    pub(crate) fn fields(self) -> Fields
         ensures count { λ r. ⌜ r .count ≤ 11 ⌝ }
-        ensures items { λ r. ⌜ take (r .count) (r .items) ≡ fieldsOf (now (self .entry)) ⌝ }
+        ensures items { λ r. ⌜ take (r .count) (r .items) ≡ fieldsOf self ⌝ }
+        ensures fits { λ _. ⌜ RecordFits self ⌝ }
     {
         let mut items = [Field::Byte(0); MOST_FIELDS];
         let count = match self {
@@ -199,8 +200,9 @@ impl Record {
 }
 
 impl Group {
-    fn fields(&self) -> [Field; MOST_FIELDS]
-        ensures { λ r. ⌜ r ≡ fieldsOf (Record.Group (now (self .entry))) ⌝ }
+    fn fields(self) -> [Field; MOST_FIELDS]
+        ensures items { λ r. ⌜ r ≡ fieldsOf (Record.Group self) ⌝ }
+        ensures fits { λ _. ⌜ RecordFits (Record.Group self) ⌝ }
     {
         let bands = self.bands;
         [

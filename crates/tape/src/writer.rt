@@ -2,7 +2,8 @@
 ghost use mathlib.Core.Path.{_≡_};
 ghost use Rattle.tape.specs.Buffers.{Puts};
 ghost use Rattle.tape.specs.Drafts.{drafted};
-ghost use Rattle.tape.specs.Records.{spelling};
+ghost use Rattle.tape.specs.Laws.{ReadsBack, SpelledAlone};
+ghost use Rattle.tape.specs.Records.{RecordFits, spelling};
 use crate::buffer::put;
 use crate::draft::Draft;
 use crate::record::Record;
@@ -11,7 +12,8 @@ use rules::Refusal;
 impl Record {
     // The record as it is spelled on the tape.
     fn spelled(&self) -> Draft
-        ensures { λ r. ⌜ drafted r ≡ spelling (now (self .entry)) ⌝ }
+        ensures text { λ r. ⌜ drafted r ≡ spelling (now (self .entry)) ⌝ }
+        ensures fits { λ _. ⌜ RecordFits (now (self .entry)) ⌝ }
     {
         let kind = self.kind();
         let mut draft = Draft::new();
@@ -24,7 +26,9 @@ impl Record {
 
     // Writes the record to the front of the buffer and answers its length there.
     pub fn write(&self, out: &mut [u8]) -> Result<usize, Refusal>
-        ensures { λ r. ⌜ Puts (spelling (now (self .entry))) (now (out .entry)) (now (out .exit)) r ⌝ }
+        ensures written { λ r. ⌜ Puts (spelling (now (self .entry))) (now (out .entry)) (now (out .exit)) r ⌝ }
+        ensures read { λ _. ⌜ ReadsBack (now (self .entry)) ⌝ }
+        ensures alone { λ _. ⌜ SpelledAlone (now (self .entry)) ⌝ }
     {
         put(self.spelled().bytes(), out)
     }
