@@ -37,8 +37,8 @@ module _ (rest body : List ℕ) (whole : CutShort rest → ⊥) (is : body ≡ t
       let s = stated rest in
       let two : take 2 rest ≡ bigEndian 2 (length body) = sym (spelled-number 2 rest bytes (omega arith)) ∙ ap (bigEndian 2) (sym counts) in
       let back : drop 2 rest ≡ body ++ drop (2 + length body) rest =
-          sym (take-append-drop s (drop 2 rest)) ∙ ap (λ l. l ++ drop s (drop 2 rest)) (sym is) ∙ ap (λ l. body ++ l) (drop-drop s 2 rest)
-          ∙ ap (λ n. body ++ drop (2 + n) rest) (sym counts) in
+      sym (take-append-drop s (drop 2 rest)) ∙ ap (λ l. l ++ drop s (drop 2 rest)) (sym is) ∙ ap (λ l. body ++ l) (drop-drop s 2 rest)
+      ∙ ap (λ n. body ++ drop (2 + n) rest) (sym counts) in
       sym (take-append-drop 2 rest) ∙ ap (λ l. l ++ drop 2 rest) two ∙ ap (λ l. bigEndian 2 (length body) ++ l) back
 
   -- no kind of record that may stand here has the letter

@@ -88,9 +88,10 @@ module _ (tape : List ℕ) (place : ℕ) where
   goes-on (Ok None) next reads records so-far = (ap (λ n. take n tape) (reads .1) ∙ so-far, λ _. sym (take-all place tape (reads .0)) ∙ so-far)
   goes-on (Ok (Some r)) next reads records so-far =
       let passed = writes-back (Ok (Some r)) next reads r refl in
-      let both : take next tape ≡ take place tape ++ take (next - place) (drop place tape) = ap (λ n. take n tape) (omega (arith, reads .2)) ∙ take-add place (next - place) tape in
-      (both ∙ ap (λ l. take place tape ++ l) passed ∙ ap (λ l. l ++ spelling r) so-far ∙ joined-more spelling (1 ∷ []) records r,
-        λ e. absurd (let no : _≡_ {A = ℕ} 0 1 = cc in omega arith))
+      let both : take next tape ≡ take place tape ++ take (next - place) (drop place tape) = ap (λ n. take n tape) (omega (arith, reads .2)) ∙ take-add place (next - place) tape in (
+        both ∙ ap (λ l. take place tape ++ l) passed ∙ ap (λ l. l ++ spelling r) so-far ∙ joined-more spelling (1 ∷ []) records r,
+        λ e. absurd (let no : _≡_ {A = ℕ} 0 1 = cc in omega arith),
+      )
   goes-on (Err d) next reads records so-far = (ap (λ n. take n tape) (reads .2) ∙ so-far, λ e. absurd (let no : _≡_ {A = ℕ} 0 1 = cc in omega arith))
 
 pub spelled-alone : (r : Record) → RecordFits r → SpelledAlone r

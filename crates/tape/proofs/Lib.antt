@@ -6,3 +6,4 @@ pub mod Framed
 pub mod Reading
 pub mod Decoded
 pub mod Laws
+pub mod Listed

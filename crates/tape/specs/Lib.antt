@@ -5,3 +5,4 @@ pub mod Buffers
 pub mod Lines
 pub mod Tapes
 pub mod Laws
+pub mod Listings

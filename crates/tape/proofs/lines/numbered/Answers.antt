@@ -1,5 +1,4 @@
 use borrow.Author.Needs.{needs}
-use mathlib.Core.Path.{sym, ap, _∙_}
 use mathlib.Core.List.{_++_, _∷_, []}
 use native.Mathlib.Omega.{arith}
 use Rattle.std.specs.Joined.{joined}
@@ -13,7 +12,7 @@ pub loop-n-again : need.loop-n-again
 loop-n-again c = (
   omega arith,
   joined-next (λ n. blank (decimal n)) (drafted (c .all .last .self)) (c .args .numbers .now) (c .loop-n .n-index) 0 (c .loop-n-test .taken) (c .loop-n .inv .1)
-  (twice (drafted (c .loop-n .draft)) (32 ∷ []) _ (c .byte .ensures .text) (c .number .ensures .text) ∙ ap (λ n. drafted (c .loop-n .draft) ++ blank (decimal n)) (c .from .ensures)),
+      (twice (drafted (c .loop-n .draft)) (32 ∷ []) _ (c .byte .ensures .text) (c .number .ensures .text)),
 )
 
 pub returns : need.returns

@@ -22,22 +22,24 @@ digits-requires t c κs = (search needs, omega (arith, longer (c .args .n) (c .i
 pub byte-requires : need.byte-requires
 byte-requires t c κs =
     elim (c .if-n-ge10 .came) [
-      then-n-ge10 w ↦ omega (arith, ap (λ d. d .len) (w .self-is), w .digits .ensures .len, longer (c .args .n) (w .if-n-ge10 .taken) (search needs))
-    | else-n-ge10 w ↦ omega (arith, ap (λ d. d .len) (w .self-is), decimal-some (c .args .n) (search needs)) ]
+      | then-n-ge10 w ↦ omega (arith, ap (λ d. d .len) (w .self-is), w .digits .ensures .len, longer (c .args .n) (w .if-n-ge10 .taken) (search needs))
+      | else-n-ge10 w ↦ omega (arith, ap (λ d. d .len) (w .self-is), decimal-some (c .args .n) (search needs))
+    ]
 
 pub returns : need.returns
 returns t c =
     let n = c .args .n in
     let before = drafted (c .args .self .now) in
     elim (c .if-n-ge10 .came) [
-      then-n-ge10 w ↦ record {
+      | then-n-ge10 w ↦ record {
         text = twice before (decimal (n / 10)) _ (ap drafted (w .self-is) ∙ w .digits .ensures .text) (c .byte .ensures .text) ∙ sym (ap (λ l. before ++ l) (decimal-step n (w .if-n-ge10 .taken) (search needs)));
         len = omega (arith, ap (λ d. d .len) (w .self-is), w .digits .ensures .len, c .byte .ensures .len, longer n (w .if-n-ge10 .taken) (search needs));
       }
-    | else-n-ge10 w ↦
-      let small : n % 10 ≡ n = search needs in
-      let one = decimal-digit n (w .if-n-ge10 .left) in
-      record {
-        text = cc;
-        len = omega (arith, ap (λ d. d .len) (w .self-is), c .byte .ensures .len, ap length one);
-      } ]
+      | else-n-ge10 w ↦
+          let small : n % 10 ≡ n = search needs in
+          let one = decimal-digit n (w .if-n-ge10 .left) in
+          record {
+            text = cc;
+            len = omega (arith, ap (λ d. d .len) (w .self-is), c .byte .ensures .len, ap length one);
+          }
+    ]

@@ -12,9 +12,9 @@ pub loop-b-again : need.loop-b-again
 loop-b-again c = (
   omega arith,
   let before = drafted (c .args .self .now) in
-  let more = c .args .more .now in
-  let i = c .loop-b .b-index in
-  twice before (take i more) (getD more i 0 ∷ []) (c .loop-b .inv .1) (c .byte .ensures .text) ∙ sym (ap (λ l. before ++ l) (take-more more i 0 (search needs))),
+      let more = c .args .more .now in
+      let i = c .loop-b .b-index in
+      twice before (take i more) (getD more i 0 ∷ []) (c .loop-b .inv .1) (c .byte .ensures .text) ∙ sym (ap (λ l. before ++ l) (take-more more i 0 (search needs))),
 )
 
 pub returns : need.returns

@@ -10,7 +10,7 @@ pub loop-field-again : need.loop-field-again
 loop-field-again c = (
   omega arith,
   joined-next (λ f. blank (shown f)) (drafted (c .args .self .now)) (c .args .fields .now) (c .loop-field .field-index) _ (c .loop-field-test .taken) (c .loop-field .inv .1)
-  (twice (drafted (c .loop-field .self)) (32 ∷ []) _ (c .byte .ensures .text) (c .shown-field .ensures .text)),
+      (twice (drafted (c .loop-field .self)) (32 ∷ []) _ (c .byte .ensures .text) (c .shown-field .ensures .text)),
 )
 
 pub returns : need.returns

@@ -18,10 +18,11 @@ returns c =
     let same = toZ-ofZ w32 z (c .fits .z) in
     let before = drafted (c .args .self .now) in
     elim (c .if-z-lt0 .came) [
-      then-z-lt0 w ↦
-      let minus = signed-below z (ap (λ y. ltZ y (pos 0)) (sym same) ∙ w .if-z-lt0 .taken) in
-      let whole = append-assoc before (45 ∷ []) (decimal (natAbs z)) in
-      record { text = cc; bound = omega (arith, ap (λ d. d .len) (w .self-is), w .byte .ensures .len, c .number .ensures .bound) }
-    | else-z-lt0 w ↦
-      let plus = signed-above z (ap (λ y. ltZ y (pos 0)) (sym same) ∙ w .if-z-lt0 .left) in
-      record { text = cc; bound = search needs } ]
+      | then-z-lt0 w ↦
+          let minus = signed-below z (ap (λ y. ltZ y (pos 0)) (sym same) ∙ w .if-z-lt0 .taken) in
+          let whole = append-assoc before (45 ∷ []) (decimal (natAbs z)) in
+          record { text = cc; bound = omega (arith, ap (λ d. d .len) (w .self-is), w .byte .ensures .len, c .number .ensures .bound) }
+      | else-z-lt0 w ↦
+          let plus = signed-above z (ap (λ y. ltZ y (pos 0)) (sym same) ∙ w .if-z-lt0 .left) in
+          record { text = cc; bound = search needs }
+    ]
