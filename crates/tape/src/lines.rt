@@ -38,7 +38,10 @@ pub fn refused(refusal: Refusal, out: &mut [u8]) -> Result<usize, Refusal>
 pub fn entered(order: u32, out: &mut [u8]) -> Result<usize, Refusal>
     ensures { λ r. ⌜ Puts (inLine order) (now (out .entry)) (now (out .exit)) r ⌝ }
 {
-    put(numbered(Draft::new(), b"in", &[u64::from(order)]).bytes(), out)
+    put(
+        numbered(Draft::new(), b"in", &[u64::from(order)]).bytes(),
+        out,
+    )
 }
 
 // `ok`: the record was accepted.
@@ -66,7 +69,10 @@ pub fn traded(
 pub fn auction_started(end: u32, out: &mut [u8]) -> Result<usize, Refusal>
     ensures { λ r. ⌜ Puts (auctionLine end) (now (out .entry)) (now (out .exit)) r ⌝ }
 {
-    put(numbered(Draft::new(), b"auction", &[u64::from(end)]).bytes(), out)
+    put(
+        numbered(Draft::new(), b"auction", &[u64::from(end)]).bytes(),
+        out,
+    )
 }
 
 // The text of `tape N at PLACE`.

@@ -14,7 +14,7 @@ pub returns-in-Err : need.returns-in-Err
 returns-in-Err c =
     let told = c .in-Err .ensures tt in
     let text : vec-items (c .extend-from-slice .last .self) ≡ tapeLine (number (c .in-Err .refusal)) 0 =
-        c .in-Continue-extend-from-slice .ensures tt .items ∙ ap (λ l. l ++ c .bytes .result .now) (c .new-text .ensures .items) ∙ c .bytes .ensures ∙ c .tape-draft .ensures in
+    c .in-Continue-extend-from-slice .ensures tt .items ∙ ap (λ l. l ++ c .bytes .result .now) (c .new-text .ensures .items) ∙ c .bytes .ensures ∙ c .tape-draft .ensures in
     subst (Listing (c .args .tape .now)) (sym text) (unopened (c .in-Err .refusal) told)
 
 pub loop-next-less : need.loop-next-less
@@ -35,7 +35,7 @@ loop-next-again c =
     let records = c .loop-next .inv .1 .0 in
     let after = one-more tape _ _ records (c .loop-next .inv .1 .1) r next reads in
     let text : vec-items (c .extend-from-slice-in-Some .last .self) ≡ vec-items (c .loop-next .text) ++ recordLine r =
-        c .in-Continue-extend-from-slice-3 .ensures tt .items ∙ ap (λ l. vec-items (c .loop-next .text) ++ l) (c .bytes-in-Some .ensures ∙ c .record-draft .ensures) in
+    c .in-Continue-extend-from-slice-3 .ensures tt .items ∙ ap (λ l. vec-items (c .loop-next .text) ++ l) (c .bytes-in-Some .ensures ∙ c .record-draft .ensures) in
     (told .same ∙ c .loop-next .inv .0, (records ++ (r ∷ []), subst (λ t. Sofar tape t next (records ++ (r ∷ []))) (sym text) after))
 
 pub returns-in-None : need.returns-in-None
@@ -52,6 +52,6 @@ returns-in-Err-next-record c =
     let next = c .next-record .last .self .place in
     let reads = reads-as {a = Err e} (c .loop-next .reader .place) next (c .loop-next .inv .0) refl (c .in-Err-next-record .ensures tt .reads) in
     let text : vec-items (c .extend-from-slice-in-Err-next-record .last .self) ≡ vec-items (c .loop-next .text) ++ tapeLine (number e) (c .loop-next .reader .place) =
-        c .in-Continue-extend-from-slice-2 .ensures tt .items
-        ∙ ap (λ l. vec-items (c .loop-next .text) ++ l) (c .bytes-in-Err-next-record .ensures ∙ c .tape-draft-in-Err-next-record .ensures ∙ ap (tapeLine (number e)) (c .place .ensures ∙ reads .2)) in
+    c .in-Continue-extend-from-slice-2 .ensures tt .items
+    ∙ ap (λ l. vec-items (c .loop-next .text) ++ l) (c .bytes-in-Err-next-record .ensures ∙ c .tape-draft-in-Err-next-record .ensures ∙ ap (tapeLine (number e)) (c .place .ensures ∙ reads .2)) in
     subst (Listing tape) (sym text) (at-fault tape _ _ _ (c .loop-next .inv .1 .1) e next reads)
