@@ -1,8 +1,9 @@
 ghost use mathlib.Core.Path.{_≡_};
+ghost use Rattle.std.specs.Orderings.{Decides};
 ghost use Rattle.rules.specs.Refusals.{number};
 
 // Why a call refuses. Each case has the number that it is told by.
-#[derive(Clone, Copy, PartialEq, Eq, Debug)]
+#[derive(Clone, Copy, Eq, Debug)]
 pub enum Refusal {
     // caused by whoever builds the market into a product
     TradeListTooShort = 1,
@@ -43,5 +44,13 @@ impl Refusal {
         ensures { λ r. ⌜ r ≡ number self ⌝ }
     {
         self as u8
+    }
+}
+
+pub impl PartialEq<Refusal> for Refusal as RefusalPartialEq {
+    ghost equals = { λ x y r. Decides r (x ≡ y) };
+
+    fn eq(&self, other: &Refusal) -> bool {
+        self.number() == other.number()
     }
 }

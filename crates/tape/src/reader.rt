@@ -98,11 +98,12 @@ impl<'a> Reader<'a> {
         ensures goes_on { λ r. ⌜ GoesOn (now (now (self .entry) .tape)) (now (self .entry) .place) r (now (self .exit) .place) ⌝ }
         ensures same { λ _. ⌜ now (now (self .exit) .tape) ≡ now (now (self .entry) .tape) ⌝ }
     {
-        if self.place >= self.tape.len() {
+        let Reader { tape, place } = self;
+        if *place >= tape.len() {
             return Ok(None);
         }
-        let (record, length) = record_at(self.place, &self.tape[self.place..])?;
-        self.place += length;
+        let (record, length) = record_at(*place, &tape[*place..])?;
+        *place += length;
         Ok(Some(record))
     }
 }

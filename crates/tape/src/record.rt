@@ -1,9 +1,9 @@
 // The records of a session tape, with fields as wide as the tape has them.
 ghost use mathlib.Core.Path.{_≡_};
 ghost use Prim.Native.Nat.{_≤_};
-ghost use lib.ListN.{take};
+ghost use lib.ListN.{length, take};
 ghost use Rattle.std.specs.Options.{Cases};
-ghost use Rattle.tape.specs.Records.{fieldsOf, kindOf, letterOf, lengthOf, RecordFits};
+ghost use Rattle.tape.specs.Records.{body, fieldsOf, kindOf, letterOf, lengthOf, RecordFits};
 
 // The kinds of record, each with its letter on the tape.
 #[derive(Clone, Copy, PartialEq, Eq, Debug)]
@@ -131,7 +131,8 @@ impl Kind {
 
     // The length that a record of the kind has on the tape, without the two bytes that tell it.
     pub fn length(self) -> usize
-        ensures { λ r. ⌜ r ≡ lengthOf self ⌝ }
+        ensures value { λ r. ⌜ r ≡ lengthOf self ⌝ }
+        ensures every { λ r. ⌜ ((x : Record) → kindOf x ≡ self → length (body x) ≡ r) ⌝ }
     {
         match self {
             Kind::Group => 39,

@@ -21,7 +21,7 @@ returns-then-body-length c =
     let k = c .in-Continue-kind .kind in
     let rest = c .args .rest .now in
     let body = c .in-Continue-body .body .now in
-    inr (inr (refl, framed .0, one-stands rest body (framed .0) (framed .1) k (told .0) (told .1) (c .args .place) (told .2), length-wrong rest body (framed .0) (framed .1) k (told .0) (told .1) (λ e. c .if-body-length .taken (e ∙ sym (c .length .ensures)))))
+    inr (inr (refl, framed .0, one-stands rest body (framed .0) (framed .1) k (told .0) (told .1) (c .args .place) (told .2), length-wrong rest body (framed .0) (framed .1) k (told .0) (told .1) (λ e. c .if-body-length .taken (e ∙ sym (c .length .ensures .value)))))
 
 pub returns : need.returns
 returns c =

@@ -39,11 +39,11 @@ returns c =
       same = refl;
     }
 
-pub returns-then-self : need.returns-then-self
-returns-then-self c =
+pub returns-then-place-tape : need.returns-then-place-tape
+returns-then-place-tape c =
     let tape = c .args .self .now .tape .now in
     let place = c .args .self .now .place in
-    let reads : Reads tape place (Ok None) place = (c .if-self .taken, refl) in
+    let reads : Reads tape place (Ok None) place = (c .if-place-tape .taken, refl) in
     record {
       reads = reads;
       only = only-answer tape place (Ok None) place reads;
