@@ -1,17 +1,18 @@
 // The public calls of the tape, at their edges.
+use records::Bands;
+use records::Clock;
+use records::Entry;
+use records::Group;
+use records::Record;
+use records::RecordDebug;
+use records::RecordPartialEq;
 use rules::Refusal;
 use rules::refusal::RefusalDebug;
 use rules::refusal::RefusalPartialEq;
 use std::test::*;
-use tape::Bands;
-use tape::Clock;
-use tape::Entry;
-use tape::Group;
 use tape::Reader;
-use tape::Record;
 use tape::lines;
-use tape::record::RecordDebug;
-use tape::record::RecordPartialEq;
+use tape::write;
 
 // A record of each kind of field, each at an end of its width.
 fn extreme_group() -> Record {
@@ -39,17 +40,17 @@ fn a_buffer_one_byte_short_is_refused_and_untouched() -> Result<(), Fail> {
         draw: 65_535,
     });
     let mut short = [7u8; 8];
-    check_eq(record.write(&mut short), Err(Refusal::BufferTooShort))?;
+    check_eq(write(&record, &mut short), Err(Refusal::BufferTooShort))?;
     check_eq(short, [7; 8])?;
     let mut long = [7u8; 11];
-    check_eq(record.write(&mut long), Ok(9))?;
+    check_eq(write(&record, &mut long), Ok(9))?;
     check_eq(long, [0, 7, b'T', 0, 0, 0, 60, 255, 255, 7, 7])
 }
 
 #[test]
 fn a_record_at_the_ends_of_its_widths_is_read_back() -> Result<(), Fail> {
     let mut tape = [1u8; 42];
-    check_eq(extreme_group().write(&mut tape[1..]), Ok(41))?;
+    check_eq(write(&extreme_group(), &mut tape[1..]), Ok(41))?;
     let mut reader = Reader::open(&tape)?;
     check_eq(reader.next_record(), Ok(Some(extreme_group())))?;
     check_eq(reader.place(), 42)?;
@@ -61,7 +62,7 @@ fn a_record_at_the_ends_of_its_widths_is_read_back() -> Result<(), Fail> {
 fn a_refused_reader_stays_before_the_record() -> Result<(), Fail> {
     let mut tape = [0u8; 45];
     tape[0] = 1;
-    check_eq(extreme_group().write(&mut tape[1..]), Ok(41))?;
+    check_eq(write(&extreme_group(), &mut tape[1..]), Ok(41))?;
     let mut reader = Reader::open(&tape)?;
     check(reader.next_record().is_ok())?;
     check_eq(reader.next_record(), Err(Refusal::NoRecordOfThisKindHere))?;

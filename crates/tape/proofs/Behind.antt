@@ -6,9 +6,9 @@ use lib.IntN.{ℤ}
 use mir.Syntax.{w32}
 use mir.Val.{toZ, ofZ, SFits}
 use Rattle.std.proofs.shelf.Signed.{toZ-ofZ}
-use Rattle.tape.specs.Records.{spelled}
-use Rattle.tape.specs.declared.record.Field.{Field}
-use Rattle.tape.specs.declared.record.Field.the-variants.{Band}
+use Rattle.records.specs.Records.{spelled}
+use Rattle.records.specs.declared.Field.{Field}
+use Rattle.records.specs.declared.Field.the-variants.{Band}
 
 -- a field, and what is known of the bytes behind it
 pub behind : {x y z : List ℕ} (f : Field) → x ≡ spelled f ++ y → y ≡ z → x ≡ spelled f ++ z

@@ -13,12 +13,12 @@ use Rattle.std.specs.Joined.{joined}
 use Rattle.std.specs.shelf.Digits.{number}
 use Rattle.std.proofs.shelf.Lists.{take-at}
 use Rattle.std.proofs.shelf.Signed.{toZ-ofZ}
-use Rattle.tape.specs.Bytes.{bigEndian}
-use Rattle.tape.specs.Records.{RecordFits, body, fieldsOf, kindOf, letterOf, lengthOf, spelled, spelling}
-use Rattle.tape.specs.declared.record.Kind.{Kind}
-use Rattle.tape.specs.declared.record.Kind.the-variants as kind
-use Rattle.tape.specs.declared.record.Record.{Record}
-use Rattle.tape.specs.declared.record.Record.the-variants as rec
+use Rattle.records.specs.Bytes.{bigEndian}
+use Rattle.records.specs.Records.{RecordFits, body, fieldsOf, kindOf, letterOf, lengthOf, spelled, spelling}
+use Rattle.records.specs.declared.Kind.{Kind}
+use Rattle.records.specs.declared.Kind.the-variants as kind
+use Rattle.records.specs.declared.Record.{Record}
+use Rattle.records.specs.declared.Record.the-variants as rec
 use Rattle.tape.proofs.Letters.{same-kind, body-length}
 use Rattle.tape.proofs.Numbers.{number-spelled}
 

@@ -9,12 +9,12 @@ use Rattle.std.specs.Joined.{joined}
 use Rattle.std.proofs.shelf.Lists.{length-take, length-drop, getD-take, getD-drop, drop-drop}
 use Rattle.std.proofs.shelf.Parts.{first-rest}
 use Rattle.std.proofs.shelf.Tests.{cases-lt}
-use Rattle.tape.specs.Bytes.{bigEndian}
-use Rattle.tape.specs.Records as records
-use Rattle.tape.specs.Records.{letterOf, lengthOf, kindOf, fieldsOf, spelled, spelling}
+use Rattle.records.specs.Bytes.{bigEndian}
+use Rattle.records.specs.Records as records
+use Rattle.records.specs.Records.{letterOf, lengthOf, kindOf, fieldsOf, spelled, spelling}
 use Rattle.tape.specs.Tapes.{stated, CutShort, kindLetter, MayStand, NoneOfThisKind, LengthWrong}
-use Rattle.tape.specs.declared.record.Kind.{Kind}
-use Rattle.tape.specs.declared.record.Record.{Record}
+use Rattle.records.specs.declared.Kind.{Kind}
+use Rattle.records.specs.declared.Record.{Record}
 use Rattle.tape.proofs.Letters.{same-kind}
 use Rattle.tape.proofs.Numbers.{Bytes, spelled-number}
 

@@ -14,11 +14,11 @@ use Rattle.std.specs.declared.result.Result.{Result}
 use Rattle.std.specs.declared.result.Result.the-variants.{Ok, Err}
 use Rattle.std.proofs.shelf.Lists.{drop-all, drop-at, take-at, take-all, joined-more, drop-drop}
 use Rattle.rules.specs.declared.refusal.Refusal.{Refusal}
-use Rattle.tape.specs.Bytes.{bigEndian}
+use Rattle.records.specs.Bytes.{bigEndian}
 use Rattle.tape.specs.Laws.{OnlyAnswer, ReadsBack, SpelledAlone, WritesBack, GoesOn, given}
-use Rattle.tape.specs.Records.{RecordFits, body, kindOf, letterOf, lengthOf, spelling}
+use Rattle.records.specs.Records.{RecordFits, body, kindOf, letterOf, lengthOf, spelling}
 use Rattle.tape.specs.Tapes.{stated, CutShort, kindLetter, MayStand, NoneOfThisKind, LengthWrong, Faulty, Stands, Reads, ReadUpTo}
-use Rattle.tape.specs.declared.record.Record.{Record}
+use Rattle.records.specs.declared.Record.{Record}
 use Rattle.tape.proofs.Decoded.{small, same-length, same-record}
 use Rattle.tape.proofs.Letters.{body-length}
 use Rattle.tape.proofs.Numbers.{number-spelled}

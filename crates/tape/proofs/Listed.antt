@@ -17,10 +17,10 @@ use Rattle.rules.specs.declared.refusal.Refusal.{Refusal}
 use Rattle.tape.specs.Lines.{recordLine, tapeLine}
 use Rattle.tape.specs.Listings.{GroupFirst, Holds, Listing, placeBehind}
 use Rattle.tape.specs.Listings.Listing.{whole, faulty}
-use Rattle.tape.specs.Records.{RecordFits, kindOf, spelling}
+use Rattle.records.specs.Records.{RecordFits, kindOf, spelling}
 use Rattle.tape.specs.Tapes.{Faulty, MayStand, Reads, ReadUpTo, TooLong}
-use Rattle.tape.specs.declared.record.Kind.the-variants as kind
-use Rattle.tape.specs.declared.record.Record.{Record}
+use Rattle.records.specs.declared.Kind.the-variants as kind
+use Rattle.records.specs.declared.Record.{Record}
 use Rattle.tape.proofs.Laws.{goes-on}
 
 -- the reader stands at the place, behind the records, and the text lists them

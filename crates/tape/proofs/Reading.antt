@@ -8,9 +8,9 @@ use Rattle.std.proofs.shelf.Lists.{take-rest, drop-drop}
 use Rattle.std.specs.declared.option.Option.the-variants.{Some, None}
 use Rattle.std.specs.declared.result.Result.the-variants.{Ok, Err}
 use Rattle.rules.specs.declared.refusal.Refusal.{Refusal}
-use Rattle.tape.specs.Records.{RecordFits, kindOf, spelling}
+use Rattle.records.specs.Records.{RecordFits, kindOf, spelling}
 use Rattle.tape.specs.Tapes.{Faulty, MayStand, Reads, Stands}
-use Rattle.tape.specs.declared.record.Record.{Record}
+use Rattle.records.specs.declared.Record.{Record}
 
 module _ (tape : List ℕ) (place : ℕ) where
   -- `&tape[place..]`

@@ -9,9 +9,9 @@ use Rattle.std.specs.declared.option.Option.the-variants.{Some, None}
 use Rattle.std.specs.declared.result.Result.{Result}
 use Rattle.std.specs.declared.result.Result.the-variants.{Ok, Err}
 use Rattle.rules.specs.declared.refusal.Refusal.{Refusal}
-use Rattle.tape.specs.Records.{RecordFits, kindOf, spelling}
+use Rattle.records.specs.Records.{RecordFits, kindOf, spelling}
 use Rattle.tape.specs.Tapes.{MayStand, Reads, ReadUpTo}
-use Rattle.tape.specs.declared.record.Record.{Record}
+use Rattle.records.specs.declared.Record.{Record}
 
 -- the answer and the next place are the only ones that the rules allow
 abbrev pub OnlyAnswer : List ℕ → ℕ → Result (Option Record) Refusal → ℕ → Type 0

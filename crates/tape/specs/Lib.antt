@@ -1,5 +1,3 @@
-pub mod Bytes
-pub mod Records
 pub mod Drafts
 pub mod Buffers
 pub mod Lines

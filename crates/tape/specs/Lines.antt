@@ -6,10 +6,10 @@ use lib.Chars.{codes}
 use lib.Dec.{eqb}
 use Rattle.std.specs.Joined.{joined}
 use Rattle.std.specs.Written.{decimal, signed}
-use Rattle.tape.specs.Records.{fieldsOf, kindOf, letterOf}
-use Rattle.tape.specs.declared.record.Field.{Field}
-use Rattle.tape.specs.declared.record.Field.the-variants.{Byte, Two, Four, Band, Form}
-use Rattle.tape.specs.declared.record.Record.{Record}
+use Rattle.records.specs.Records.{fieldsOf, kindOf, letterOf}
+use Rattle.records.specs.declared.Field.{Field}
+use Rattle.records.specs.declared.Field.the-variants.{Byte, Two, Four, Band, Form}
+use Rattle.records.specs.declared.Record.{Record}
 
 abbrev pub newline : List ℕ
 newline = 10 ∷ []

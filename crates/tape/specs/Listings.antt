@@ -8,10 +8,10 @@ use Rattle.std.specs.shelf.Lists.{All}
 use Rattle.rules.specs.Refusals.{number}
 use Rattle.rules.specs.declared.refusal.Refusal.{Refusal}
 use Rattle.tape.specs.Lines.{recordLine, tapeLine}
-use Rattle.tape.specs.Records.{RecordFits, kindOf, spelling}
+use Rattle.records.specs.Records.{RecordFits, kindOf, spelling}
 use Rattle.tape.specs.Tapes.{Faulty, NotOpened, TooLong}
-use Rattle.tape.specs.declared.record.Kind.the-variants as kind
-use Rattle.tape.specs.declared.record.Record.{Record}
+use Rattle.records.specs.declared.Kind.the-variants as kind
+use Rattle.records.specs.declared.Record.{Record}
 
 -- the first record is the group's, and no other is
 abbrev pub GroupFirst : List Record → Type 0

@@ -13,10 +13,10 @@ use Rattle.std.specs.declared.result.Result.the-variants.{Ok, Err}
 use Rattle.rules.specs.Limits.{most-tape-bytes}
 use Rattle.rules.specs.declared.refusal.Refusal.{Refusal}
 use Rattle.rules.specs.declared.refusal.Refusal.the-variants as refusal
-use Rattle.tape.specs.Records.{RecordFits, kindOf, letterOf, lengthOf, spelling}
-use Rattle.tape.specs.declared.record.Kind.{Kind}
-use Rattle.tape.specs.declared.record.Kind.the-variants as kind
-use Rattle.tape.specs.declared.record.Record.{Record}
+use Rattle.records.specs.Records.{RecordFits, kindOf, letterOf, lengthOf, spelling}
+use Rattle.records.specs.declared.Kind.{Kind}
+use Rattle.records.specs.declared.Kind.the-variants as kind
+use Rattle.records.specs.declared.Record.{Record}
 
 -- the tape begins with the version byte
 abbrev pub Versioned : List ℕ → Type 0

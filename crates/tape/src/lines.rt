@@ -9,7 +9,7 @@ ghost use Rattle.tape.specs.Drafts.{drafted};
 ghost use Rattle.tape.specs.Lines.{line, refusedLine, inLine, okLine, tradeLine, auctionLine, tapeLine, recordLine};
 use crate::buffer::put;
 use crate::draft::Draft;
-use crate::record::Record;
+use records::Record;
 use rules::Refusal;
 
 // A word and the numbers behind it, with a blank before each.

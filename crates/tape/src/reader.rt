@@ -7,10 +7,11 @@ ghost use lib.ListN.{length, getD, take, drop};
 ghost use Rattle.std.specs.Results.{Cases};
 ghost use Rattle.rules.specs.declared.refusal.Refusal.the-variants.{RecordCutShort, NoRecordOfThisKindHere};
 ghost use Rattle.tape.specs.Laws.{GoesOn, OnlyAnswer, WritesBack};
-ghost use Rattle.tape.specs.Records.{kindOf, letterOf, spelling, RecordFits};
+ghost use Rattle.records.specs.Records.{kindOf, letterOf, spelling, RecordFits};
 ghost use Rattle.tape.specs.Tapes.{NotOpened, Versioned, TooLong, stated, CutShort, MayStand, Faulty, Reads, ReadUpTo};
-use crate::record::Kind;
-use crate::record::Record;
+use crate::fields::record;
+use records::Kind;
+use records::Record;
 use rules::MOST_TAPE_BYTES;
 use rules::Refusal;
 
@@ -65,7 +66,7 @@ fn record_at(place: usize, rest: &[u8]) -> Result<(Record, usize), Refusal>
     if body.len() != kind.length() {
         return Err(Refusal::LengthWrongForKind);
     }
-    Ok((Record::read(kind, &body[1..]), 2 + body.len()))
+    Ok((record(kind, &body[1..]), 2 + body.len()))
 }
 
 impl<'a> Reader<'a> {

@@ -6,9 +6,9 @@ ghost use lib.ListN.{length};
 ghost use Rattle.std.specs.Joined.{joined};
 ghost use Rattle.tape.specs.Drafts.{drafted};
 ghost use Rattle.tape.specs.Lines.{blank, shown, formShown};
-ghost use Rattle.tape.specs.Records.{spelled};
+ghost use Rattle.records.specs.Records.{spelled};
 use super::Draft;
-use crate::record::Field;
+use records::Field;
 
 impl Draft {
     // A field in the bytes that spell it on the tape.

@@ -3,7 +3,7 @@ use mathlib.Core.List.{List}
 use Prim.Native.Nat.{_-_}
 use lib.ListN.{length}
 use Rattle.std.specs.Of.Vec.{vec-items}
-use Rattle.tape.specs.declared.record.Record.{Record}
+use Rattle.records.specs.declared.Record.{Record}
 use Rattle.tape.proofs.Listed.{Sofar}
 use Rattle.tape.proofs.listing.listing.Given as given
 

@@ -30,9 +30,9 @@ returns c =
     let k = c .in-Continue-kind .kind in
     let rest = c .args .rest .now in
     let body = c .in-Continue-body .body .now in
-    let read = c .read .ensures in (
+    let read = c .record .ensures in (
       read .fits,
       subst (MayStand (c .args .place)) (sym (read .kind)) (told .2),
-      spelled-length rest body (framed .0) (framed .1) k (told .0) (told .1) (c .read .result) (read .kind) (read .fields),
-      spelled-whole rest body (framed .0) (framed .1) k (told .0) (told .1) (c .read .result) (read .kind) (read .fields) (λ i. search needs),
+      spelled-length rest body (framed .0) (framed .1) k (told .0) (told .1) (c .record .result) (read .kind) (read .fields),
+      spelled-whole rest body (framed .0) (framed .1) k (told .0) (told .1) (c .record .result) (read .kind) (read .fields) (λ i. search needs),
     )

@@ -1,7 +1,7 @@
 use borrow.Author.Needs.{needs}
 use native.Mathlib.Omega.{arith}
 use Rattle.tape.specs.Drafts.{drafted}
-use Rattle.tape.specs.Records.{spelled}
+use Rattle.records.specs.Records.{spelled}
 use Rattle.tape.proofs.Grown.{joined-next, joined-whole}
 use Rattle.tape.proofs.draft.Draft.spelled_fields.Needs as need
 

@@ -4,7 +4,7 @@ use Prim.Native.Nat.{_+_, _*_, _≤_}
 use lib.ListN.{take}
 use Rattle.std.specs.Joined.{joined}
 use Rattle.tape.specs.Drafts.{drafted}
-use Rattle.tape.specs.Records.{spelled}
+use Rattle.records.specs.Records.{spelled}
 use Rattle.tape.proofs.draft.Draft.spelled_fields.Given as given
 
 abbrev pub Inv-loop-field : given.InvT-loop-field

@@ -5,7 +5,7 @@ use native.Mathlib.Omega.{arith}
 use lib.ListN.{length}
 use Rattle.std.proofs.shelf.Lists.{nil-from-length}
 use Rattle.tape.proofs.Behind.{band-behind}
-use Rattle.tape.proofs.record.Bands.read.Needs as need
+use Rattle.tape.proofs.fields.bands.Needs as need
 
 pub returns : need.returns
 returns c =

@@ -3,9 +3,9 @@ use mathlib.Core.List.{[]}
 use native.Mathlib.Omega.{arith}
 use lib.ListN.{length}
 use Rattle.std.proofs.shelf.Lists.{nil-from-length}
-use Rattle.tape.specs.declared.record.Field.the-variants.{Four, Two}
+use Rattle.records.specs.declared.Field.the-variants.{Four, Two}
 use Rattle.tape.proofs.Behind.{behind}
-use Rattle.tape.proofs.record.Amendment.read.Needs as need
+use Rattle.tape.proofs.fields.amendment.Needs as need
 
 pub returns : need.returns
 returns c =

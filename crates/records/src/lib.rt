@@ -3,7 +3,7 @@ ghost use mathlib.Core.Path.{_≡_};
 ghost use Prim.Native.Nat.{_≤_};
 ghost use lib.ListN.{length, take};
 ghost use Rattle.std.specs.Options.{Cases};
-ghost use Rattle.tape.specs.Records.{body, fieldsOf, kindOf, letterOf, lengthOf, RecordFits};
+ghost use Rattle.records.specs.Records.{body, fieldsOf, kindOf, letterOf, lengthOf, RecordFits};
 
 // The kinds of record, each with its letter on the tape.
 #[derive(Clone, Copy, PartialEq, Eq, Debug)]
@@ -85,7 +85,7 @@ pub enum Record {
 
 // A field of a record: a plain number of one, two or four bytes, a band, or the letter of a form.
 #[derive(Clone, Copy)]
-pub(crate) enum Field {
+pub enum Field {
     Byte(u8),
     Two(u16),
     Four(u32),
@@ -94,13 +94,13 @@ pub(crate) enum Field {
 }
 
 // No record has more fields than the group's.
-pub(crate) const MOST_FIELDS: usize = 11;
+pub const MOST_FIELDS: usize = 11;
 
 // The fields of a record in the tape's order: the first `count` of `items`.
 #[derive(Clone, Copy)]
-pub(crate) struct Fields {
-    pub(crate) items: [Field; MOST_FIELDS],
-    pub(crate) count: usize,
+pub struct Fields {
+    pub items: [Field; MOST_FIELDS],
+    pub count: usize,
 }
 
 impl Kind {
@@ -160,7 +160,7 @@ impl Record {
     }
 
     // The fields in the tape's order.
-    pub(crate) fn fields(self) -> Fields
+    pub fn fields(self) -> Fields
         ensures count { λ r. ⌜ r .count ≤ 11 ⌝ }
         ensures items { λ r. ⌜ take (r .count) (r .items) ≡ fieldsOf self ⌝ }
         ensures fits { λ _. ⌜ RecordFits self ⌝ }

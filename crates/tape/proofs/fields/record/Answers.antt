@@ -1,8 +1,8 @@
 use mathlib.Core.Path.{sym, ap, _∙_}
 use native.Mathlib.Omega.{arith}
 use Rattle.std.proofs.shelf.Lists.{nil-from-length}
-use Rattle.tape.specs.Records.{lengthOf}
-use Rattle.tape.proofs.record.Record.read.Needs as need
+use Rattle.records.specs.Records.{lengthOf}
+use Rattle.tape.proofs.fields.record.Needs as need
 
 pub returns-in-AuctionCall : need.returns-in-AuctionCall
 returns-in-AuctionCall c = record {

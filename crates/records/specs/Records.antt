@@ -7,14 +7,14 @@ use mir.Syntax.{w32}
 use mir.Val.{ofZ, SFits}
 use Rattle.std.specs.Joined.{joined}
 use Rattle.std.specs.shelf.Lists.{All}
-use Rattle.tape.specs.Bytes.{bigEndian}
-use Rattle.tape.specs.declared.record.Bands.{Bands}
-use Rattle.tape.specs.declared.record.Field.{Field}
-use Rattle.tape.specs.declared.record.Field.the-variants.{Byte, Two, Four, Band, Form}
-use Rattle.tape.specs.declared.record.Kind.{Kind}
-use Rattle.tape.specs.declared.record.Kind.the-variants as kind
-use Rattle.tape.specs.declared.record.Record.{Record}
-use Rattle.tape.specs.declared.record.Record.the-variants as rec
+use Rattle.records.specs.Bytes.{bigEndian}
+use Rattle.records.specs.declared.Bands.{Bands}
+use Rattle.records.specs.declared.Field.{Field}
+use Rattle.records.specs.declared.Field.the-variants.{Byte, Two, Four, Band, Form}
+use Rattle.records.specs.declared.Kind.{Kind}
+use Rattle.records.specs.declared.Kind.the-variants as kind
+use Rattle.records.specs.declared.Record.{Record}
+use Rattle.records.specs.declared.Record.the-variants as rec
 
 -- the letter of each kind
 abbrev pub letterOf : Kind → ℕ

@@ -1,6 +1,6 @@
-use Rattle.tape.specs.declared.record.Field.the-variants.{Byte, Four, Form}
+use Rattle.records.specs.declared.Field.the-variants.{Byte, Four, Form}
 use Rattle.tape.proofs.Behind.{behind}
-use Rattle.tape.proofs.record.Group.read.Needs as need
+use Rattle.tape.proofs.fields.group.Needs as need
 
 pub returns : need.returns
 returns c =
@@ -9,4 +9,4 @@ returns c =
     (behind (Byte (c .byte-liquid .result .0)) (c .byte-liquid .ensures)
     (behind (Four (c .four-settlement .result .0)) (c .four-settlement .ensures)
     (behind (Form (c .byte-form .result .0)) (c .byte-form .ensures)
-    (c .read-bands .ensures)))))
+    (c .bands-bands .ensures)))))
