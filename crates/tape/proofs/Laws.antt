@@ -41,12 +41,12 @@ module _ (rest after : List ℕ) (place : ℕ) (r : Record) (is : rest ≡ spell
   right-length : LengthWrong rest → ⊥
   right-length wrong = wrong (kindOf r) letter (sym (body-length r) ∙ sym states)
 
-  no-fault : (e : Refusal) → Faulty rest place e → ⊥
+  pub no-fault : (e : Refusal) → Faulty rest place e → ⊥
   no-fault e (inl cut) = whole (cut .1)
   no-fault e (inr (inl none)) = some-kind (none .2)
   no-fault e (inr (inr wrong)) = right-length (wrong .3)
 
-one-fault : (rest : List ℕ) (place : ℕ) (d e : Refusal) → Faulty rest place d → Faulty rest place e → d ≡ e
+pub one-fault : (rest : List ℕ) (place : ℕ) (d e : Refusal) → Faulty rest place d → Faulty rest place e → d ≡ e
 one-fault rest place d e (inl a) (inl b) = a .0 ∙ sym (b .0)
 one-fault rest place d e (inl a) (inr (inl b)) = absurd (b .1 (a .1))
 one-fault rest place d e (inl a) (inr (inr b)) = absurd (b .1 (a .1))

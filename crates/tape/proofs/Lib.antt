@@ -7,3 +7,4 @@ pub mod Reading
 pub mod Decoded
 pub mod Laws
 pub mod Listed
+pub mod OnlyText

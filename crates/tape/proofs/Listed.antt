@@ -76,7 +76,3 @@ none-yet tape read short = record { read = read; inside = omega (arith, ap lengt
 -- what was read, by other names for the tape and the answer
 pub reads-as : {tape other : List ℕ} {a b : Result (Option Record) Refusal} (place next : ℕ) → tape ≡ other → a ≡ b → Reads tape place a next → Reads other place b next
 reads-as {tape} {other} {a} {b} place next e f reads = subst (λ t. Reads t place b next) e (subst (λ x. Reads tape place x next) f reads)
-
--- a line that is added to a text
-pub added : {now bytes draft : List ℕ} (text line : List ℕ) → now ≡ text ++ bytes → bytes ≡ draft → draft ≡ line → now ≡ text ++ line
-added text line e f g = e ∙ ap (λ l. text ++ l) (f ∙ g)

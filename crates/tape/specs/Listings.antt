@@ -38,3 +38,7 @@ pub data Listing (tape : List ℕ) : List ℕ → Type 0 where
   whole : (records : List Record) → Holds tape records [] → Listing tape (joined recordLine records)
   faulty : (records : List Record) (rest : List ℕ) (e : Refusal) → Holds tape records rest → 0 < length rest → Faulty rest (placeBehind records) e →
       Listing tape (joined recordLine records ++ tapeLine (number e) (placeBehind records))
+
+-- the text lists the tape, and no other text does
+abbrev pub TheListing : List ℕ → List ℕ → Type 0
+TheListing tape text = Listing tape text × ((other : List ℕ) → Listing tape other → other ≡ text)

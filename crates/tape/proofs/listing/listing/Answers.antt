@@ -4,18 +4,19 @@ use native.Mathlib.Omega.{arith}
 use Rattle.std.specs.Of.Vec.{vec-items}
 use Rattle.std.specs.declared.result.Result.the-variants.{Ok, Err}
 use Rattle.rules.specs.Refusals.{number}
-use Rattle.tape.specs.Lines.{recordLine, tapeLine}
-use Rattle.tape.specs.Listings.{Listing}
+use Rattle.tape.specs.Lines.{tapeLine}
+use Rattle.tape.specs.Listings.{TheListing}
 use Rattle.tape.specs.Listings.Listing.{unopened}
-use Rattle.tape.proofs.Listed.{Sofar, one-more, at-end, at-fault, reads-as, added}
+use Rattle.tape.proofs.Listed.{Sofar, one-more, at-end, at-fault, reads-as}
+use Rattle.tape.proofs.OnlyText.{the-listing}
 use Rattle.tape.proofs.listing.listing.Needs as need
 
 pub returns-in-Err : need.returns-in-Err
 returns-in-Err c =
-    let told = c .in-Err .ensures tt in
-    let text = added (vec-items (c .new-text .result)) (tapeLine (number (c .in-Err .refusal)) 0) (c .in-Continue-extend-from-slice .ensures tt .items) (c .bytes .ensures) (c .tape-draft .ensures) in
-    let begun = ap (λ l. l ++ tapeLine (number (c .in-Err .refusal)) 0) (c .new-text .ensures .items) in
-    subst⁻¹ (Listing (c .args .tape .now)) text (subst⁻¹ (Listing (c .args .tape .now)) begun (unopened (c .in-Err .refusal) told))
+    let tape = c .args .tape .now in
+    let e = c .in-Err .refusal in
+    let begun = ap (λ l. l ++ tapeLine (number e) 0) (c .new-text .ensures .items) in
+    subst⁻¹ (TheListing tape) (c .in-Continue-add-fault .ensures tt ∙ begun) (the-listing tape _ (unopened e (c .in-Err .ensures tt)))
 
 pub loop-next-less : need.loop-next-less
 loop-next-less c =
@@ -34,7 +35,7 @@ loop-next-again c =
     let reads = reads-as (c .loop-next .reader .place) next (c .loop-next .inv .0) (ap (λ o. Ok o) (c .in-Some .is)) (c .in-Ok-next-record .ensures tt .reads) in
     let records = c .loop-next .inv .1 .0 in
     let after = one-more tape _ _ records (c .loop-next .inv .1 .1) r next reads in
-    let text = added (vec-items (c .loop-next .text)) (recordLine r) (c .in-Continue-extend-from-slice-3 .ensures tt .items) (c .bytes-in-Some .ensures) (c .record-draft .ensures) in
+    let text = c .in-Continue-add-record .ensures tt in
     (told .same ∙ c .loop-next .inv .0, (records ++ (r ∷ []), subst⁻¹ (λ t. Sofar tape t next (records ++ (r ∷ []))) text after))
 
 pub returns-in-None : need.returns-in-None
@@ -42,7 +43,7 @@ returns-in-None c =
     let tape = c .args .tape .now in
     let next = c .next-record .last .self .place in
     let reads = reads-as (c .loop-next .reader .place) next (c .loop-next .inv .0) (ap (λ o. Ok o) (c .in-None .is)) (c .in-Ok-next-record .ensures tt .reads) in
-    at-end tape _ _ _ (c .loop-next .inv .1 .1) next reads
+    the-listing tape _ (at-end tape _ _ _ (c .loop-next .inv .1 .1) next reads)
 
 pub returns-in-Err-next-record : need.returns-in-Err-next-record
 returns-in-Err-next-record c =
@@ -50,6 +51,5 @@ returns-in-Err-next-record c =
     let e = c .in-Err-next-record .refusal in
     let next = c .next-record .last .self .place in
     let reads = reads-as {a = Err e} (c .loop-next .reader .place) next (c .loop-next .inv .0) refl (c .in-Err-next-record .ensures tt .reads) in
-    let text = added (vec-items (c .loop-next .text)) (tapeLine (number e) (c .place .result)) (c .in-Continue-extend-from-slice-2 .ensures tt .items) (c .bytes-in-Err-next-record .ensures) (c .tape-draft-in-Err-next-record .ensures) in
     let here = ap (λ p. vec-items (c .loop-next .text) ++ tapeLine (number e) p) (c .place .ensures ∙ reads .2) in
-    subst⁻¹ (Listing tape) text (subst⁻¹ (Listing tape) here (at-fault tape _ _ _ (c .loop-next .inv .1 .1) e next reads))
+    subst⁻¹ (TheListing tape) (c .in-Continue-add-fault-2 .ensures tt ∙ here) (the-listing tape _ (at-fault tape _ _ _ (c .loop-next .inv .1 .1) e next reads))
