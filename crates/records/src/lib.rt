@@ -110,9 +110,7 @@ impl Kind {
     {
         self as u8
     }
-}
 
-impl Kind {
     // The kind that a letter of the tape stands for.
     pub fn of_letter(letter: u8) -> Option<Kind>
         ensures { λ r. ⌜ Cases r ((k : Kind) → letterOf k ≡ letter → ⊥) (λ k. letterOf k ≡ letter) ⌝ }
@@ -165,38 +163,55 @@ impl Record {
         ensures items { λ r. ⌜ take (r .count) (r .items) ≡ fieldsOf self ⌝ }
         ensures fits { λ _. ⌜ RecordFits self ⌝ }
     {
+        match self {
+            Record::Group(g) => Fields::of(&g.fields()),
+            Record::Buy(e) | Record::Sell(e) => Fields::of(&e.fields()),
+            Record::Amendment(a) => Fields::of(&a.fields()),
+            Record::Cancellation(x) => Fields::of(&[Field::Two(x.member), Field::Four(x.number)]),
+            Record::AuctionCall => Fields::of(&[]),
+            Record::Clock(t) => Fields::of(&[Field::Four(t.second), Field::Two(t.draw)]),
+        }
+    }
+}
+
+impl Fields {
+    // The row of these fields.
+    fn of(fields: &[Field]) -> Fields
+        requires { ⌜ length (now fields) ≤ 11 ⌝ }
+        ensures count { λ r. ⌜ r .count ≡ length (now (fields .entry)) ⌝ }
+        ensures items { λ r. ⌜ take (r .count) (r .items) ≡ now (fields .entry) ⌝ }
+    {
+        let count = fields.len();
         let mut items = [Field::Byte(0); MOST_FIELDS];
-        let count = match self {
-            Record::Group(g) => {
-                items = g.fields();
-                MOST_FIELDS
-            }
-            Record::Buy(e) | Record::Sell(e) => {
-                items[0] = Field::Two(e.member);
-                items[1] = Field::Four(e.price);
-                items[2] = Field::Four(e.quantity);
-                3
-            }
-            Record::Amendment(a) => {
-                items[0] = Field::Two(a.member);
-                items[1] = Field::Four(a.number);
-                items[2] = Field::Four(a.price);
-                items[3] = Field::Four(a.quantity);
-                4
-            }
-            Record::Cancellation(x) => {
-                items[0] = Field::Two(x.member);
-                items[1] = Field::Four(x.number);
-                2
-            }
-            Record::AuctionCall => 0,
-            Record::Clock(t) => {
-                items[0] = Field::Four(t.second);
-                items[1] = Field::Two(t.draw);
-                2
-            }
-        };
+        items[0..count].copy_from_slice(fields);
         Fields { items, count }
+    }
+}
+
+impl Entry {
+    fn fields(self) -> [Field; 3]
+        ensures items { λ r. ⌜ r ≡ fieldsOf (Record.Buy self) ⌝ }
+        ensures fits { λ _. ⌜ RecordFits (Record.Buy self) ⌝ }
+    {
+        [
+            Field::Two(self.member),
+            Field::Four(self.price),
+            Field::Four(self.quantity),
+        ]
+    }
+}
+
+impl Amendment {
+    fn fields(self) -> [Field; 4]
+        ensures items { λ r. ⌜ r ≡ fieldsOf (Record.Amendment self) ⌝ }
+        ensures fits { λ _. ⌜ RecordFits (Record.Amendment self) ⌝ }
+    {
+        [
+            Field::Two(self.member),
+            Field::Four(self.number),
+            Field::Four(self.price),
+            Field::Four(self.quantity),
+        ]
     }
 }
 
