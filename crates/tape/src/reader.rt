@@ -74,14 +74,16 @@ impl<'a> Reader<'a> {
     pub fn open(tape: &'a [u8]) -> Result<Reader<'a>, Refusal>
         ensures { λ r. ⌜ Cases r (λ reader. Versioned (now (tape .entry)) × (TooLong (now (tape .entry)) → ⊥) × (now (reader .tape) ≡ now (tape .entry)) × (reader .place ≡ 1) × ReadUpTo (now (tape .entry)) 1 []) (NotOpened (now (tape .entry))) ⌝ }
     {
-        match tape {
-            [VERSION, ..] if tape.len() <= MOST_TAPE_BYTES => Ok(Reader {
-                tape,
-                place: FIRST_PLACE,
-            }),
-            [VERSION, ..] => Err(Refusal::TapeTooLong),
-            _ => Err(Refusal::NoVersionByte),
+        let [VERSION, ..] = tape else {
+            return Err(Refusal::NoVersionByte);
+        };
+        if tape.len() > MOST_TAPE_BYTES {
+            return Err(Refusal::TapeTooLong);
         }
+        Ok(Reader {
+            tape,
+            place: FIRST_PLACE,
+        })
     }
 
     // The byte, from 0, where the next record begins.
