@@ -1,11 +1,12 @@
-# make run    lists the sample tape
+# make run    proves and builds `list`, and lists the sample tape
 # make test   every check, and last `rt ci`, which proves everything and runs the programs and the tests
 
 .PHONY: run test
 
 run:
-	rt check list
-	target/bin/list < samples/session.tape
+	@mkdir -p target
+	@rt check list > target/run.log 2>&1 || { cat target/run.log; exit 1; }
+	@target/bin/list < samples/session.tape
 
 test:
 	tools/check

@@ -48,6 +48,10 @@ fieldsOf (rec.Cancellation x) = Two (x .member) ∷ Four (x .number) ∷ []
 fieldsOf rec.AuctionCall = []
 fieldsOf (rec.Clock t) = Four (t .second) ∷ Two (t .draw) ∷ []
 
+-- no record has more fields than the group's
+abbrev pub most-fields : ℕ
+most-fields = 11
+
 -- a field in bytes; a band is in two's complement
 abbrev pub spelled : Field → List ℕ
 spelled (Byte n) = bigEndian 1 n

@@ -3,7 +3,7 @@ ghost use mathlib.Core.Path.{_≡_};
 ghost use Prim.Native.Nat.{_≤_};
 ghost use lib.ListN.{length, take};
 ghost use Rattle.std.specs.Options.{Cases};
-ghost use Rattle.records.specs.Records.{body, fieldsOf, kindOf, letterOf, lengthOf, RecordFits};
+ghost use Rattle.records.specs.Records.{body, fieldsOf, kindOf, letterOf, lengthOf, most-fields, RecordFits};
 
 // The kinds of record, each with its letter on the tape.
 #[derive(Clone, Copy, PartialEq, Eq, Debug)]
@@ -93,7 +93,7 @@ pub enum Field {
     Form(u8),
 }
 
-// No record has more fields than the group's.
+// No record has more fields than the group's: in specs/Records.antt, `most-fields`.
 pub const MOST_FIELDS: usize = 11;
 
 // The fields of a record in the tape's order: the first `count` of `items`.
@@ -159,7 +159,7 @@ impl Record {
 
     // The fields in the tape's order.
     pub fn fields(self) -> Fields
-        ensures count { λ r. ⌜ r .count ≤ 11 ⌝ }
+        ensures count { λ r. ⌜ r .count ≤ most-fields ⌝ }
         ensures items { λ r. ⌜ take (r .count) (r .items) ≡ fieldsOf self ⌝ }
         ensures fits { λ _. ⌜ RecordFits self ⌝ }
     {
@@ -177,7 +177,7 @@ impl Record {
 impl Fields {
     // The row of these fields.
     fn of(fields: &[Field]) -> Fields
-        requires { ⌜ length (now fields) ≤ 11 ⌝ }
+        requires { ⌜ length (now fields) ≤ most-fields ⌝ }
         ensures count { λ r. ⌜ r .count ≡ length (now (fields .entry)) ⌝ }
         ensures items { λ r. ⌜ take (r .count) (r .items) ≡ now (fields .entry) ⌝ }
     {

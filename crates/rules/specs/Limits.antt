@@ -22,6 +22,10 @@ greatest-quantity = 10_000
 abbrev pub greatest-tick : ℕ
 greatest-tick = 1_000
 
+-- bands and half-widths of tunnels are at most this far from the base price
+abbrev pub greatest-band : ℕ
+greatest-band = 1_000_000
+
 -- a tunnel's tally never passes this
 abbrev pub greatest-tally : ℕ
 greatest-tally = 100_000_000_000

@@ -3,6 +3,7 @@
 pub mod limits;
 pub mod refusal;
 
+pub use limits::GREATEST_BAND;
 pub use limits::GREATEST_MEMBER;
 pub use limits::GREATEST_PRICE;
 pub use limits::GREATEST_QUANTITY;

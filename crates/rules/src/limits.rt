@@ -1,4 +1,4 @@
-// The limits. Each stands under the same name, in small letters, in specs/Limits.antt.
+// The limits. Each stands under the same name in specs/Limits.antt, in small letters and with `-` for `_`.
 
 // Prices run from 1 to this.
 pub const GREATEST_PRICE: u32 = 10_000_000;
@@ -14,6 +14,9 @@ pub const GREATEST_QUANTITY: u32 = 10_000;
 
 // Ticks run from 1 to this.
 pub const GREATEST_TICK: u32 = 1_000;
+
+// Bands and half-widths of tunnels are at most this far from the base price.
+pub const GREATEST_BAND: i32 = 1_000_000;
 
 // A tunnel's tally never passes this.
 pub const GREATEST_TALLY: u64 = 100_000_000_000;

@@ -32,7 +32,7 @@ pub enum Refusal {
     RecordCutShort = 20,
     NoRecordOfThisKindHere = 21,
     LengthWrongForKind = 22,
-    // caused by whoever lends the buffer
+    // caused by whoever builds the market into a product
     BufferTooShort = 23,
     // caused by the tape's author
     TapeTooLong = 24,

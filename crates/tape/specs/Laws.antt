@@ -10,7 +10,7 @@ use Rattle.std.specs.declared.result.Result.{Result}
 use Rattle.std.specs.declared.result.Result.the-variants.{Ok, Err}
 use Rattle.rules.specs.declared.refusal.Refusal.{Refusal}
 use Rattle.records.specs.Records.{RecordFits, kindOf, spelling}
-use Rattle.tape.specs.Tapes.{MayStand, Reads, ReadUpTo}
+use Rattle.tape.specs.Tapes.{MayStand, Reads, ReadUpTo, version}
 use Rattle.records.specs.declared.Record.{Record}
 
 -- the answer and the next place are the only ones that the rules allow
@@ -41,4 +41,4 @@ given records (Err e) = records
 -- Where the reader answers that there is no further record, that is the whole tape.
 abbrev pub GoesOn : List ℕ → ℕ → Result (Option Record) Refusal → ℕ → Type 0
 GoesOn tape place answer next =
-    (records : List Record) → ReadUpTo tape place records → ReadUpTo tape next (given records answer) × (answer ≡ Ok None → tape ≡ 1 ∷ joined spelling records)
+    (records : List Record) → ReadUpTo tape place records → ReadUpTo tape next (given records answer) × (answer ≡ Ok None → tape ≡ version ∷ joined spelling records)

@@ -9,7 +9,7 @@ use Rattle.rules.specs.Refusals.{number}
 use Rattle.rules.specs.declared.refusal.Refusal.{Refusal}
 use Rattle.tape.specs.Lines.{recordLine, tapeLine}
 use Rattle.records.specs.Records.{RecordFits, kindOf, spelling}
-use Rattle.tape.specs.Tapes.{Faulty, NotOpened, TooLong}
+use Rattle.tape.specs.Tapes.{Faulty, NotOpened, TooLong, first-place, version}
 use Rattle.records.specs.declared.Kind.the-variants as kind
 use Rattle.records.specs.declared.Record.{Record}
 
@@ -20,14 +20,14 @@ GroupFirst (r ∷ records) = (kindOf r ≡ kind.Group) × All (λ s. kindOf s �
 
 -- the tape is the version byte, these records spelled one after another, and the rest
 pub record Holds (tape : List ℕ) (records : List Record) (rest : List ℕ) : Type 0 where
-  pub spelled : tape ≡ 1 ∷ (joined spelling records ++ rest)
+  pub spelled : tape ≡ version ∷ (joined spelling records ++ rest)
   pub fit : All RecordFits records
   pub ordered : GroupFirst records
   pub short : TooLong tape → ⊥
 
 -- the place behind these records
 abbrev pub placeBehind : List Record → ℕ
-placeBehind records = 1 + length (joined spelling records)
+placeBehind records = first-place + length (joined spelling records)
 
 -- What is listed of a tape:
 -- of one that is not opened, why;

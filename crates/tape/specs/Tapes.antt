@@ -18,9 +18,17 @@ use Rattle.records.specs.declared.Kind.{Kind}
 use Rattle.records.specs.declared.Kind.the-variants as kind
 use Rattle.records.specs.declared.Record.{Record}
 
+-- the byte that a tape begins with
+abbrev pub version : ℕ
+version = 1
+
+-- the place of the first record, behind the version byte
+abbrev pub first-place : ℕ
+first-place = 1
+
 -- the tape begins with the version byte
 abbrev pub Versioned : List ℕ → Type 0
-Versioned tape = take 1 tape ≡ 1 ∷ []
+Versioned tape = take 1 tape ≡ version ∷ []
 
 abbrev pub TooLong : List ℕ → Type 0
 TooLong tape = most-tape-bytes < length tape
@@ -42,9 +50,9 @@ CutShort rest = length rest < 2 + stated rest
 abbrev pub kindLetter : List ℕ → ℕ
 kindLetter rest = getD rest 2 0
 
--- the group's record stands first, behind the version byte, and no other record does
+-- the group's record stands first, and no other record does
 abbrev pub MayStand : ℕ → Kind → Type 0
-MayStand place k = (place ≡ 1 → k ≡ kind.Group) × (k ≡ kind.Group → place ≡ 1)
+MayStand place k = (place ≡ first-place → k ≡ kind.Group) × (k ≡ kind.Group → place ≡ first-place)
 
 -- length 0, a letter of no kind, a first record that is no group's, or a group's that is not first
 abbrev pub NoneOfThisKind : ℕ → List ℕ → Type 0
@@ -73,4 +81,4 @@ Reads tape place (Err e) next = (place < length tape) × Faulty (drop place tape
 
 -- up to the place, the tape is the version byte and these records, spelled one after another
 abbrev pub ReadUpTo : List ℕ → ℕ → List Record → Type 0
-ReadUpTo tape place records = take place tape ≡ 1 ∷ joined spelling records
+ReadUpTo tape place records = take place tape ≡ version ∷ joined spelling records

@@ -1,16 +1,16 @@
 // Bytes that are put together before they are copied to a lent buffer.
 ghost use Prim.Native.Nat.{_≤_};
+ghost use Rattle.tape.specs.Buffers.{enough-room};
+
+use crate::buffer::ENOUGH_ROOM;
 
 mod build;
-mod fields;
-
-// No line of text and no record is as long as this.
-pub(crate) const DRAFT_ROOM: usize = 256;
+mod spell;
 
 // The first `len` bytes are what was put together so far.
 #[derive(Clone, Copy)]
 pub(crate) struct Draft {
-    bytes: [u8; DRAFT_ROOM],
+    bytes: [u8; ENOUGH_ROOM],
     len: usize,
-    ghost inside: { len ≤ 256 },
+    ghost inside: { len ≤ enough-room },
 }

@@ -8,5 +8,6 @@ pub mod listing;
 pub mod reader;
 pub mod writer;
 
+pub use buffer::ENOUGH_ROOM;
 pub use reader::Reader;
 pub use writer::write;

@@ -8,17 +8,17 @@ ghost use Rattle.std.specs.Results.{Cases};
 ghost use Rattle.rules.specs.declared.refusal.Refusal.the-variants.{RecordCutShort, NoRecordOfThisKindHere};
 ghost use Rattle.tape.specs.Laws.{GoesOn, OnlyAnswer, WritesBack};
 ghost use Rattle.records.specs.Records.{kindOf, letterOf, spelling, RecordFits};
-ghost use Rattle.tape.specs.Tapes.{NotOpened, Versioned, TooLong, stated, CutShort, MayStand, Faulty, Reads, ReadUpTo};
+ghost use Rattle.tape.specs.Tapes.{NotOpened, Versioned, TooLong, stated, CutShort, MayStand, Faulty, Reads, ReadUpTo, first-place};
 use crate::fields::record;
 use records::Kind;
 use records::Record;
 use rules::MOST_TAPE_BYTES;
 use rules::Refusal;
 
-// The version that a tape begins with.
+// The byte that a tape begins with: in specs/Tapes.antt, `version`.
 const VERSION: u8 = 1;
 
-// The place of the first record, behind the version byte.
+// The place of the first record, behind the version byte: in specs/Tapes.antt, `first-place`.
 const FIRST_PLACE: usize = 1;
 
 // A reader of a tape: `place` is the byte, from 0, where the next record begins.
@@ -72,7 +72,7 @@ fn record_at(place: usize, rest: &[u8]) -> Result<(Record, usize), Refusal>
 impl<'a> Reader<'a> {
     // Opens a tape: the reader stands before its first record.
     pub fn open(tape: &'a [u8]) -> Result<Reader<'a>, Refusal>
-        ensures { λ r. ⌜ Cases r (λ reader. Versioned (now (tape .entry)) × (TooLong (now (tape .entry)) → ⊥) × (now (reader .tape) ≡ now (tape .entry)) × (reader .place ≡ 1) × ReadUpTo (now (tape .entry)) 1 []) (NotOpened (now (tape .entry))) ⌝ }
+        ensures { λ r. ⌜ Cases r (λ reader. Versioned (now (tape .entry)) × (TooLong (now (tape .entry)) → ⊥) × (now (reader .tape) ≡ now (tape .entry)) × (reader .place ≡ first-place) × ReadUpTo (now (tape .entry)) first-place []) (NotOpened (now (tape .entry))) ⌝ }
     {
         let [VERSION, ..] = tape else {
             return Err(Refusal::NoVersionByte);

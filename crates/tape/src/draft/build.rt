@@ -4,9 +4,10 @@ ghost use mathlib.Core.List.{[], _∷_, _++_};
 ghost use Prim.Native.Nat.{_+_, _<_, _≤_};
 ghost use lib.ListN.{length};
 ghost use Rattle.std.specs.Written.{decimal, signed};
+ghost use Rattle.tape.specs.Buffers.{enough-room};
 ghost use Rattle.tape.specs.Drafts.{drafted};
-use super::DRAFT_ROOM;
 use super::Draft;
+use crate::buffer::ENOUGH_ROOM;
 
 impl Draft {
     pub(crate) fn new() -> Draft
@@ -14,21 +15,22 @@ impl Draft {
         ensures len { λ r. ⌜ r .len ≡ 0 ⌝ }
     {
         Draft {
-            bytes: [0; DRAFT_ROOM],
+            bytes: [0; ENOUGH_ROOM],
             len: 0,
         }
     }
 
     // What was put together so far.
     pub(crate) fn bytes(&self) -> &[u8]
-        ensures { λ r. ⌜ now r ≡ drafted (now (self .entry)) ⌝ }
+        ensures text { λ r. ⌜ now r ≡ drafted (now (self .entry)) ⌝ }
+        ensures len { λ r. ⌜ length (now r) ≤ enough-room ⌝ }
     {
         &self.bytes[0..self.len]
     }
 
     // One byte more.
     pub(crate) fn byte(&mut self, b: u8)
-        requires { ⌜ now self .len < 256 ⌝ }
+        requires { ⌜ now self .len < enough-room ⌝ }
         ensures text { λ _. ⌜ drafted (now (self .exit)) ≡ drafted (now (self .entry)) ++ b ∷ [] ⌝ }
         ensures len { λ _. ⌜ now (self .exit) .len ≡ now (self .entry) .len + 1 ⌝ }
     {
@@ -38,7 +40,7 @@ impl Draft {
 
     // All of `more`.
     pub(crate) fn all(&mut self, more: &[u8])
-        requires { ⌜ now self .len + length (now more) ≤ 256 ⌝ }
+        requires { ⌜ now self .len + length (now more) ≤ enough-room ⌝ }
         ensures text { λ _. ⌜ drafted (now (self .exit)) ≡ drafted (now (self .entry)) ++ now (more .entry) ⌝ }
         ensures len { λ _. ⌜ now (self .exit) .len ≡ now (self .entry) .len + length (now (more .entry)) ⌝ }
     {
@@ -49,7 +51,7 @@ impl Draft {
 
     // The digits of a number in decimal, with no leading zero.
     fn digits(&mut self, n: u64)
-        requires { ⌜ now self .len + length (decimal n) ≤ 256 ⌝ }
+        requires { ⌜ now self .len + length (decimal n) ≤ enough-room ⌝ }
         ensures text { λ _. ⌜ drafted (now (self .exit)) ≡ drafted (now (self .entry)) ++ decimal n ⌝ }
         ensures len { λ _. ⌜ now (self .exit) .len ≡ now (self .entry) .len + length (decimal n) ⌝ }
     {
@@ -61,7 +63,7 @@ impl Draft {
 
     // A number in decimal: it has at most 20 digits.
     pub(crate) fn number(&mut self, n: u64)
-        requires { ⌜ now self .len + 20 ≤ 256 ⌝ }
+        requires { ⌜ now self .len + 20 ≤ enough-room ⌝ }
         ensures text { λ _. ⌜ drafted (now (self .exit)) ≡ drafted (now (self .entry)) ++ decimal n ⌝ }
         ensures bound { λ _. ⌜ now (self .exit) .len ≤ now (self .entry) .len + 20 ⌝ }
     {
@@ -70,7 +72,7 @@ impl Draft {
 
     // A signed number in decimal, with a minus sign where it is negative.
     pub(crate) fn signed_number(&mut self, z: i32)
-        requires { ⌜ now self .len + 21 ≤ 256 ⌝ }
+        requires { ⌜ now self .len + 21 ≤ enough-room ⌝ }
         ensures text { λ _. ⌜ drafted (now (self .exit)) ≡ drafted (now (self .entry)) ++ signed z ⌝ }
         ensures bound { λ _. ⌜ now (self .exit) .len ≤ now (self .entry) .len + 21 ⌝ }
     {

@@ -4,6 +4,7 @@ ghost use mathlib.Core.List.{_++_};
 ghost use Prim.Native.Nat.{_+_, _*_, _≤_};
 ghost use lib.ListN.{length};
 ghost use Rattle.std.specs.Joined.{joined};
+ghost use Rattle.tape.specs.Buffers.{enough-room};
 ghost use Rattle.tape.specs.Drafts.{drafted};
 ghost use Rattle.tape.specs.Lines.{blank, shown, formShown};
 ghost use Rattle.records.specs.Records.{spelled};
@@ -13,7 +14,7 @@ use records::Field;
 impl Draft {
     // A field in the bytes that spell it on the tape.
     pub(crate) fn spelled_field(&mut self, field: Field)
-        requires { ⌜ now self .len + 4 ≤ 256 ⌝ }
+        requires { ⌜ now self .len + 4 ≤ enough-room ⌝ }
         ensures text { λ _. ⌜ drafted (now (self .exit)) ≡ drafted (now (self .entry)) ++ spelled field ⌝ }
         ensures bound { λ _. ⌜ now (self .exit) .len ≤ now (self .entry) .len + 4 ⌝ }
     {
@@ -27,7 +28,7 @@ impl Draft {
 
     // A form: its letter where there is such a form, else the byte as a number.
     fn form(&mut self, form: u8)
-        requires { ⌜ now self .len + 20 ≤ 256 ⌝ }
+        requires { ⌜ now self .len + 20 ≤ enough-room ⌝ }
         ensures text { λ _. ⌜ drafted (now (self .exit)) ≡ drafted (now (self .entry)) ++ formShown form ⌝ }
         ensures bound { λ _. ⌜ now (self .exit) .len ≤ now (self .entry) .len + 20 ⌝ }
     {
@@ -39,7 +40,7 @@ impl Draft {
 
     // A field as text.
     pub(crate) fn shown_field(&mut self, field: Field)
-        requires { ⌜ now self .len + 21 ≤ 256 ⌝ }
+        requires { ⌜ now self .len + 21 ≤ enough-room ⌝ }
         ensures text { λ _. ⌜ drafted (now (self .exit)) ≡ drafted (now (self .entry)) ++ shown field ⌝ }
         ensures bound { λ _. ⌜ now (self .exit) .len ≤ now (self .entry) .len + 21 ⌝ }
     {
@@ -54,7 +55,7 @@ impl Draft {
 
     // All the fields in the bytes that spell them.
     pub(crate) fn spelled_fields(&mut self, fields: &[Field])
-        requires { ⌜ now self .len + 4 * length (now fields) ≤ 256 ⌝ }
+        requires { ⌜ now self .len + 4 * length (now fields) ≤ enough-room ⌝ }
         ensures { λ _. ⌜ drafted (now (self .exit)) ≡ drafted (now (self .entry)) ++ joined spelled (now (fields .entry)) ⌝ }
     {
         for field in fields {
@@ -64,7 +65,7 @@ impl Draft {
 
     // All the fields as text, with a blank before each.
     pub(crate) fn shown_fields(&mut self, fields: &[Field])
-        requires { ⌜ now self .len + 22 * length (now fields) ≤ 256 ⌝ }
+        requires { ⌜ now self .len + 22 * length (now fields) ≤ enough-room ⌝ }
         ensures text { λ _. ⌜ drafted (now (self .exit)) ≡ drafted (now (self .entry)) ++ joined (λ f. blank (shown f)) (now (fields .entry)) ⌝ }
         ensures bound { λ _. ⌜ now (self .exit) .len ≤ now (self .entry) .len + 22 * length (now (fields .entry)) ⌝ }
     {
