@@ -31,7 +31,9 @@ def width(kind):
 
 def spell(kind, values):
     body = kind.encode()
-    for (name, form), value in zip(FIELDS[kind], values, strict=True):
+    if len(values) != len(FIELDS[kind]):
+        sys.exit(f"tape.py: {kind} has {len(FIELDS[kind])} fields, not {len(values)}")
+    for (name, form), value in zip(FIELDS[kind], values):
         if form == "form":
             body += bytes([ord(value) if value in ("A", "W") else int(value)])
         else:
@@ -76,7 +78,7 @@ def list_tape(tape):
         kind = body[:1].decode("latin-1")
         if place + 2 > len(tape) or len(body) < size:
             fault = 20
-        elif kind not in FIELDS or kind == "" or (kind == "G") != (place == 1):
+        elif kind not in FIELDS or (kind == "G") != (place == 1):
             fault = 21
         elif size != 1 + width(kind):
             fault = 22

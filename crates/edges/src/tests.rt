@@ -10,11 +10,12 @@ use rules::Refusal;
 use rules::refusal::RefusalDebug;
 use rules::refusal::RefusalPartialEq;
 use std::test::*;
+use tape::ENOUGH_ROOM;
 use tape::Reader;
 use tape::lines;
 use tape::write;
 
-// A record of each kind of field, each at an end of its width.
+// A group's record with each field at an end of its width.
 fn extreme_group() -> Record {
     Record::Group(Group {
         tick: u32::MAX,
@@ -82,35 +83,35 @@ fn tapes_that_are_not_opened() -> Result<(), Fail> {
     )
 }
 
-// A line of text and the answer that it came with, held to what they should be in a buffer of that length.
-fn holds(line: &[u8], told: Result<usize, Refusal>, out: &[u8]) -> Result<(), Fail> {
-    check_eq(told, Ok(line.len()))?;
-    check(line.len() <= out.len())?;
-    check_eq(&out[0..line.len()], line)
+// A call answered the length of the expected line, and the line stands at the front of the buffer.
+fn holds(expected: &[u8], answer: Result<usize, Refusal>, out: &[u8]) -> Result<(), Fail> {
+    check_eq(answer, Ok(expected.len()))?;
+    check(expected.len() <= out.len())?;
+    check_eq(&out[0..expected.len()], expected)
 }
 
 #[test]
 fn lines_of_text() -> Result<(), Fail> {
-    let mut out = [0u8; 64];
-    let told = lines::refused(Refusal::PriceOutsideRange, &mut out);
-    holds(b"refused 12\n", told, &out)?;
-    let told = lines::entered(1_000_000, &mut out);
-    holds(b"in 1000000\n", told, &out)?;
-    let told = lines::accepted(&mut out);
-    holds(b"ok\n", told, &out)?;
-    let told = lines::traded(3, 1, 1010, 2, &mut out);
-    holds(b"trade 3 1 1010 2\n", told, &out)?;
-    let told = lines::auction_started(0, &mut out);
-    holds(b"auction 0\n", told, &out)?;
-    let told = lines::tape_refused(Refusal::RecordCutShort, 65_536, &mut out);
-    holds(b"tape 20 at 65536\n", told, &out)?;
+    let mut out = [0u8; ENOUGH_ROOM];
+    let answer = lines::refused(Refusal::PriceOutsideRange, &mut out);
+    holds(b"refused 12\n", answer, &out)?;
+    let answer = lines::entered(1_000_000, &mut out);
+    holds(b"in 1000000\n", answer, &out)?;
+    let answer = lines::accepted(&mut out);
+    holds(b"ok\n", answer, &out)?;
+    let answer = lines::traded(3, 1, 1010, 2, &mut out);
+    holds(b"trade 3 1 1010 2\n", answer, &out)?;
+    let answer = lines::auction_started(0, &mut out);
+    holds(b"auction 0\n", answer, &out)?;
+    let answer = lines::tape_refused(Refusal::RecordCutShort, 65_536, &mut out);
+    holds(b"tape 20 at 65536\n", answer, &out)?;
     let record = Record::Buy(Entry {
         member: 8,
         price: 1040,
         quantity: 4,
     });
-    let told = lines::listed(&record, &mut out);
-    holds(b"B 8 1040 4\n", told, &out)
+    let answer = lines::listed(&record, &mut out);
+    holds(b"B 8 1040 4\n", answer, &out)
 }
 
 #[test]
@@ -121,10 +122,13 @@ fn a_line_that_does_not_fit() -> Result<(), Fail> {
         Err(Refusal::BufferTooShort),
     )?;
     check_eq(short, [9; 10])?;
-    let mut exact = [9u8; 12];
+    let mut exact = [9u8; 11];
+    let answer = lines::refused(Refusal::PriceOutsideRange, &mut exact);
+    holds(b"refused 12\n", answer, &exact)?;
+    let mut long = [9u8; 12];
     check_eq(
-        lines::refused(Refusal::PriceOutsideRange, &mut exact),
+        lines::refused(Refusal::PriceOutsideRange, &mut long),
         Ok(11),
     )?;
-    check_eq(exact[11], 9)
+    check_eq(long[11], 9)
 }

@@ -15,7 +15,7 @@ use Rattle.std.specs.declared.result.Result.the-variants.{Ok, Err}
 use Rattle.std.proofs.shelf.Lists.{drop-all, drop-at, take-at, take-all, joined-more, drop-drop}
 use Rattle.rules.specs.declared.refusal.Refusal.{Refusal}
 use Rattle.records.specs.Bytes.{bigEndian}
-use Rattle.tape.specs.Laws.{OnlyAnswer, ReadsBack, SpelledAlone, WritesBack, GoesOn, given}
+use Rattle.tape.specs.Laws.{OnlyAnswer, ReadsBack, SpelledAlone, WritesBack, GoesOn, Reading, given}
 use Rattle.records.specs.Records.{RecordFits, body, kindOf, letterOf, lengthOf, spelling}
 use Rattle.tape.specs.Tapes.{stated, CutShort, kindLetter, MayStand, NoneOfThisKind, LengthWrong, Faulty, Stands, Reads, ReadUpTo}
 use Rattle.records.specs.declared.Record.{Record}
@@ -75,10 +75,10 @@ module _ (tape : List ℕ) (place : ℕ) where
   only (Err d) (Ok (Some s)) m n x y = absurd (no-fault (drop place tape) (drop n tape) place s (y .3) (y .1) d (x .1))
   only (Err d) (Err e) m n x y = (ap (λ f. Err f) (one-fault (drop place tape) place d e (x .1) (y .1)), x .2 ∙ sym (y .2))
 
-  pub only-answer : (answer : Result (Option Record) Refusal) (next : ℕ) → Reads tape place answer next → OnlyAnswer tape place answer next
+  only-answer : (answer : Result (Option Record) Refusal) (next : ℕ) → Reads tape place answer next → OnlyAnswer tape place answer next
   only-answer answer next reads a n other = only a answer n next other reads
 
-  pub writes-back : (answer : Result (Option Record) Refusal) (next : ℕ) → Reads tape place answer next → WritesBack tape place answer next
+  writes-back : (answer : Result (Option Record) Refusal) (next : ℕ) → Reads tape place answer next → WritesBack tape place answer next
   writes-back answer next reads r e =
       let stands : Stands tape place r next = subst (λ a. Reads tape place a next) e reads in
       let passed : length (spelling r) ≡ next - place = omega (arith, stands .2) in
@@ -93,6 +93,14 @@ module _ (tape : List ℕ) (place : ℕ) where
         λ e. absurd (let no : _≡_ {A = ℕ} 0 1 = cc in omega arith),
       )
   goes-on (Err d) next reads records so-far = (ap (λ n. take n tape) (reads .2) ∙ so-far, λ e. absurd (let no : _≡_ {A = ℕ} 0 1 = cc in omega arith))
+
+  pub reading : (answer : Result (Option Record) Refusal) (next : ℕ) → Reads tape place answer next → Reading tape place answer next
+  reading answer next reads = record {
+    reads = reads;
+    only = only-answer answer next reads;
+    written = writes-back answer next reads;
+    goes-on = goes-on answer next reads;
+  }
 
 pub spelled-alone : (r : Record) → RecordFits r → SpelledAlone r
 spelled-alone r fits s fs e = same-record s r [] [] (ap (λ l. l ++ []) e) fs fits

@@ -14,7 +14,7 @@ use Rattle.std.proofs.shelf.Elements.{all-append}
 use Rattle.std.proofs.shelf.Lists.{joined-more, length-take, length-take-le, length-drop, drop-all}
 use Rattle.rules.specs.Refusals.{number}
 use Rattle.rules.specs.declared.refusal.Refusal.{Refusal}
-use Rattle.tape.specs.Lines.{recordLine, tapeLine}
+use Rattle.tape.specs.Lines.{listedLine, tapeRefusedLine}
 use Rattle.tape.specs.Listings.{GroupFirst, Holds, Listing, placeBehind}
 use Rattle.tape.specs.Listings.Listing.{whole, faulty}
 use Rattle.records.specs.Records.{RecordFits, kindOf, spelling}
@@ -30,7 +30,7 @@ pub record Sofar (tape text : List ℕ) (place : ℕ) (records : List Record) : 
   pub fit : All RecordFits records
   pub ordered : GroupFirst records
   pub short : TooLong tape → ⊥
-  pub listed : text ≡ joined recordLine records
+  pub listed : text ≡ joined listedLine records
 
 -- a record that may stand behind these
 ordered-more : (records : List Record) (r : Record) → GroupFirst records → MayStand (placeBehind records) (kindOf r) → GroupFirst (records ++ (r ∷ []))
@@ -50,14 +50,14 @@ module _ (tape text : List ℕ) (place : ℕ) (records : List Record) (sofar : S
     short = sofar .short;
   }
 
-  pub one-more : (r : Record) (next : ℕ) → Reads tape place (Ok (Some r)) next → Sofar tape (text ++ recordLine r) next (records ++ (r ∷ []))
+  pub one-more : (r : Record) (next : ℕ) → Reads tape place (Ok (Some r)) next → Sofar tape (text ++ listedLine r) next (records ++ (r ∷ []))
   one-more r next reads = record {
     read = goes-on tape place (Ok (Some r)) next reads records (sofar .read) .0;
     inside = omega (arith, sofar .inside, reads .2, ap length (reads .3), length-append (spelling r) (drop next tape), length-drop place tape, length-drop next tape);
     fit = all-append RecordFits records (r ∷ []) (sofar .fit) (reads .0, tt);
     ordered = ordered-more records r (sofar .ordered) (subst (λ p. MayStand p (kindOf r)) here (reads .1));
     short = sofar .short;
-    listed = ap (λ l. l ++ recordLine r) (sofar .listed) ∙ joined-more recordLine [] records r;
+    listed = ap (λ l. l ++ listedLine r) (sofar .listed) ∙ joined-more listedLine [] records r;
   }
 
   pub at-end : (next : ℕ) → Reads tape place (Ok None) next → Listing tape text
@@ -65,10 +65,10 @@ module _ (tape text : List ℕ) (place : ℕ) (records : List Record) (sofar : S
       let all : Holds tape records [] = subst (Holds tape records) (drop-all place tape (reads .0)) holds in
       subst (Listing tape) (sym (sofar .listed)) (whole records all)
 
-  pub at-fault : (e : Refusal) (next : ℕ) → Reads tape place (Err e) next → Listing tape (text ++ tapeLine (number e) place)
+  pub at-fault : (e : Refusal) (next : ℕ) → Reads tape place (Err e) next → Listing tape (text ++ tapeRefusedLine (number e) place)
   at-fault e next reads =
       let fault : Faulty (drop place tape) (placeBehind records) e = subst (λ p. Faulty (drop place tape) p e) here (reads .1) in
-      subst (λ t. Listing tape (t ++ tapeLine (number e) place)) (sym (sofar .listed)) (subst (λ p. Listing tape (joined recordLine records ++ tapeLine (number e) p)) (sym here) (faulty records (drop place tape) e holds (omega (arith, reads .0, length-drop place tape)) fault))
+      subst (λ t. Listing tape (t ++ tapeRefusedLine (number e) place)) (sym (sofar .listed)) (subst (λ p. Listing tape (joined listedLine records ++ tapeRefusedLine (number e) p)) (sym here) (faulty records (drop place tape) e holds (omega (arith, reads .0, length-drop place tape)) fault))
 
 pub none-yet : (tape : List ℕ) → ReadUpTo tape 1 [] → (TooLong tape → ⊥) → Sofar tape [] 1 []
 none-yet tape read short = record { read = read; inside = omega (arith, ap length read, length-take 1 tape); fit = tt; ordered = tt; short = short; listed = refl }

@@ -13,7 +13,7 @@ use Rattle.rules.specs.declared.refusal.Refusal.{Refusal}
 use Rattle.records.specs.Records.{RecordFits, kindOf, spelling}
 use Rattle.records.specs.declared.Kind.the-variants as kind
 use Rattle.records.specs.declared.Record.{Record}
-use Rattle.tape.specs.Lines.{recordLine, tapeLine}
+use Rattle.tape.specs.Lines.{listedLine, tapeRefusedLine}
 use Rattle.tape.specs.Listings.{GroupFirst, Holds, Listing, TheListing, placeBehind}
 use Rattle.tape.specs.Listings.Listing.{unopened, whole, faulty}
 use Rattle.tape.specs.Tapes.{Faulty, MayStand, NotOpened, TooLong, Versioned}
@@ -86,11 +86,11 @@ module _ (tape : List ℕ) where
     rest-same e = append-cancel-left (joined spelling rs) rest other (behind-one ∙ ap (λ qs. joined spelling qs ++ other) (sym e))
 
   only-text : (text other : List ℕ) → Listing tape text → Listing tape other → text ≡ other
-  only-text text other (unopened d x) (unopened e y) = ap (λ q. tapeLine (number q) 0) (one-reason d e x y)
+  only-text text other (unopened d x) (unopened e y) = ap (λ q. tapeRefusedLine (number q) 0) (one-reason d e x y)
   only-text text other (unopened d x) (whole ss y) = absurd (not-both ss [] d y x)
   only-text text other (unopened d x) (faulty ss rest e y some fault) = absurd (not-both ss rest d y x)
   only-text text other (whole rs x) (unopened e y) = absurd (not-both rs [] e x y)
-  only-text text other (whole rs x) (whole ss y) = ap (joined recordLine) (held-same rs ss [] [] x y (inl refl) (inl refl))
+  only-text text other (whole rs x) (whole ss y) = ap (joined listedLine) (held-same rs ss [] [] x y (inl refl) (inl refl))
   only-text text other (whole rs x) (faulty ss rest e y some fault) =
       let same = held-same rs ss [] rest x y (inl refl) (inr (e, fault)) in
       absurd (omega (arith, some, ap length (rest-same rs ss [] rest x y same)))
@@ -101,7 +101,7 @@ module _ (tape : List ℕ) where
   only-text text other (faulty rs rest d x some fault) (faulty ss rest′ e y some′ fault′) =
       let same = held-same rs ss rest rest′ x y (inr (d, fault)) (inr (e, fault′)) in
       let left : Faulty rest (placeBehind rs) e = subst (λ l. Faulty l (placeBehind rs) e) (sym (rest-same rs ss rest rest′ x y same)) (subst (λ qs. Faulty rest′ (placeBehind qs) e) (sym same) fault′) in
-      ap (λ qs. joined recordLine qs ++ tapeLine (number d) (placeBehind qs)) same ∙ ap (λ q. joined recordLine ss ++ tapeLine (number q) (placeBehind ss)) (one-fault rest (placeBehind rs) d e fault left)
+      ap (λ qs. joined listedLine qs ++ tapeRefusedLine (number d) (placeBehind qs)) same ∙ ap (λ q. joined listedLine ss ++ tapeRefusedLine (number q) (placeBehind ss)) (one-fault rest (placeBehind rs) d e fault left)
 
   pub the-listing : (text : List ℕ) → Listing tape text → TheListing tape text
   the-listing text lists = (lists, λ other also. only-text other text also lists)

@@ -42,3 +42,10 @@ given records (Err e) = records
 abbrev pub GoesOn : List ℕ → ℕ → Result (Option Record) Refusal → ℕ → Type 0
 GoesOn tape place answer next =
     (records : List Record) → ReadUpTo tape place records → ReadUpTo tape next (given records answer) × (answer ≡ Ok None → tape ≡ version ∷ joined spelling records)
+
+-- all that is promised of one reading
+pub record Reading (tape : List ℕ) (place : ℕ) (answer : Result (Option Record) Refusal) (next : ℕ) : Type 0 where
+  pub reads : Reads tape place answer next
+  pub only : OnlyAnswer tape place answer next
+  pub written : WritesBack tape place answer next
+  pub goes-on : GoesOn tape place answer next

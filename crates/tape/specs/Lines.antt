@@ -25,21 +25,21 @@ line word numbers = word ++ (joined (λ n. blank (decimal n)) numbers ++ newline
 abbrev pub refusedLine : ℕ → List ℕ
 refusedLine n = line (codes "refused") (n ∷ [])
 
-abbrev pub inLine : ℕ → List ℕ
-inLine number = line (codes "in") (number ∷ [])
+abbrev pub enteredLine : ℕ → List ℕ
+enteredLine number = line (codes "in") (number ∷ [])
 
-abbrev pub okLine : List ℕ
-okLine = line (codes "ok") []
+abbrev pub acceptedLine : List ℕ
+acceptedLine = line (codes "ok") []
 
-abbrev pub tradeLine : ℕ → ℕ → ℕ → ℕ → List ℕ
-tradeLine buy sell price quantity = line (codes "trade") (buy ∷ sell ∷ price ∷ quantity ∷ [])
+abbrev pub tradedLine : ℕ → ℕ → ℕ → ℕ → List ℕ
+tradedLine buy sell price quantity = line (codes "trade") (buy ∷ sell ∷ price ∷ quantity ∷ [])
 
-abbrev pub auctionLine : ℕ → List ℕ
-auctionLine end = line (codes "auction") (end ∷ [])
+abbrev pub auctionStartedLine : ℕ → List ℕ
+auctionStartedLine end = line (codes "auction") (end ∷ [])
 
 -- refusal n at that place of the tape
-abbrev pub tapeLine : ℕ → ℕ → List ℕ
-tapeLine n place = codes "tape" ++ (blank (decimal n) ++ line (codes " at") (place ∷ []))
+abbrev pub tapeRefusedLine : ℕ → ℕ → List ℕ
+tapeRefusedLine n place = codes "tape" ++ (blank (decimal n) ++ line (codes " at") (place ∷ []))
 
 -- a form is shown as its letter where it is A or W
 abbrev pub formShown : ℕ → List ℕ
@@ -53,5 +53,5 @@ shown (Band z) = signed z
 shown (Form n) = formShown n
 
 -- the kind letter, then the fields with a blank before each, and the newline
-abbrev pub recordLine : Record → List ℕ
-recordLine r = letterOf (kindOf r) ∷ (joined (λ f. blank (shown f)) (fieldsOf r) ++ newline)
+abbrev pub listedLine : Record → List ℕ
+listedLine r = letterOf (kindOf r) ∷ (joined (λ f. blank (shown f)) (fieldsOf r) ++ newline)

@@ -7,7 +7,7 @@ use Rattle.std.specs.Joined.{joined}
 use Rattle.std.specs.shelf.Lists.{All}
 use Rattle.rules.specs.Refusals.{number}
 use Rattle.rules.specs.declared.refusal.Refusal.{Refusal}
-use Rattle.tape.specs.Lines.{recordLine, tapeLine}
+use Rattle.tape.specs.Lines.{listedLine, tapeRefusedLine}
 use Rattle.records.specs.Records.{RecordFits, kindOf, spelling}
 use Rattle.tape.specs.Tapes.{Faulty, NotOpened, TooLong, first-place, version}
 use Rattle.records.specs.declared.Kind.the-variants as kind
@@ -34,10 +34,10 @@ placeBehind records = first-place + length (joined spelling records)
 -- of one without fault, a line for each record, and these records are the tape;
 -- of any other, a line for each record before the fault, and then the fault and its place.
 pub data Listing (tape : List ℕ) : List ℕ → Type 0 where
-  unopened : (e : Refusal) → NotOpened tape e → Listing tape (tapeLine (number e) 0)
-  whole : (records : List Record) → Holds tape records [] → Listing tape (joined recordLine records)
+  unopened : (e : Refusal) → NotOpened tape e → Listing tape (tapeRefusedLine (number e) 0)
+  whole : (records : List Record) → Holds tape records [] → Listing tape (joined listedLine records)
   faulty : (records : List Record) (rest : List ℕ) (e : Refusal) → Holds tape records rest → 0 < length rest → Faulty rest (placeBehind records) e →
-      Listing tape (joined recordLine records ++ tapeLine (number e) (placeBehind records))
+      Listing tape (joined listedLine records ++ tapeRefusedLine (number e) (placeBehind records))
 
 -- the text lists the tape, and no other text does
 abbrev pub TheListing : List ℕ → List ℕ → Type 0

@@ -1,7 +1,6 @@
 // Bytes that are put together before they are copied to a lent buffer.
 ghost use Prim.Native.Nat.{_≤_};
 ghost use Rattle.tape.specs.Buffers.{enough-room};
-
 use crate::buffer::ENOUGH_ROOM;
 
 mod build;

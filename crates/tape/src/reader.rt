@@ -6,9 +6,9 @@ ghost use Prim.Native.Nat.{_<_};
 ghost use lib.ListN.{length, getD, take, drop};
 ghost use Rattle.std.specs.Results.{Cases};
 ghost use Rattle.rules.specs.declared.refusal.Refusal.the-variants.{RecordCutShort, NoRecordOfThisKindHere};
-ghost use Rattle.tape.specs.Laws.{GoesOn, OnlyAnswer, WritesBack};
+ghost use Rattle.tape.specs.Laws.{Reading};
 ghost use Rattle.records.specs.Records.{kindOf, letterOf, spelling, RecordFits};
-ghost use Rattle.tape.specs.Tapes.{NotOpened, Versioned, TooLong, stated, CutShort, MayStand, Faulty, Reads, ReadUpTo, first-place};
+ghost use Rattle.tape.specs.Tapes.{NotOpened, Versioned, TooLong, stated, CutShort, MayStand, Faulty, ReadUpTo, first-place};
 use crate::fields::record;
 use records::Kind;
 use records::Record;
@@ -69,6 +69,19 @@ fn record_at(place: usize, rest: &[u8]) -> Result<(Record, usize), Refusal>
     Ok((record(kind, &body[1..]), 2 + body.len()))
 }
 
+// What a reader at the place answers, and the place where it stands then.
+fn read_at(tape: &[u8], place: usize) -> (Result<Option<Record>, Refusal>, usize)
+    ensures { λ r. ⌜ Reading (now (tape .entry)) place (r .0) (r .1) ⌝ }
+{
+    if place >= tape.len() {
+        return (Ok(None), place);
+    }
+    match record_at(place, &tape[place..]) {
+        Ok((record, length)) => (Ok(Some(record)), place + length),
+        Err(refusal) => (Err(refusal), place),
+    }
+}
+
 impl<'a> Reader<'a> {
     // Opens a tape: the reader stands before its first record.
     pub fn open(tape: &'a [u8]) -> Result<Reader<'a>, Refusal>
@@ -95,18 +108,11 @@ impl<'a> Reader<'a> {
 
     // The next record, or `None` behind the last one. A refused reader stays before the record.
     pub fn next_record(&mut self) -> Result<Option<Record>, Refusal>
-        ensures reads { λ r. ⌜ Reads (now (now (self .entry) .tape)) (now (self .entry) .place) r (now (self .exit) .place) ⌝ }
-        ensures only { λ r. ⌜ OnlyAnswer (now (now (self .entry) .tape)) (now (self .entry) .place) r (now (self .exit) .place) ⌝ }
-        ensures written { λ r. ⌜ WritesBack (now (now (self .entry) .tape)) (now (self .entry) .place) r (now (self .exit) .place) ⌝ }
-        ensures goes_on { λ r. ⌜ GoesOn (now (now (self .entry) .tape)) (now (self .entry) .place) r (now (self .exit) .place) ⌝ }
+        ensures reading { λ r. ⌜ Reading (now (now (self .entry) .tape)) (now (self .entry) .place) r (now (self .exit) .place) ⌝ }
         ensures same { λ _. ⌜ now (now (self .exit) .tape) ≡ now (now (self .entry) .tape) ⌝ }
     {
-        let Reader { tape, place } = self;
-        if *place >= tape.len() {
-            return Ok(None);
-        }
-        let (record, length) = record_at(*place, &tape[*place..])?;
-        *place += length;
-        Ok(Some(record))
+        let (answer, next) = read_at(self.tape, self.place);
+        self.place = next;
+        answer
     }
 }

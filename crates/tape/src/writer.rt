@@ -3,7 +3,7 @@ ghost use mathlib.Core.Path.{_≡_};
 ghost use Rattle.tape.specs.Buffers.{Puts};
 ghost use Rattle.tape.specs.Drafts.{drafted};
 ghost use Rattle.tape.specs.Laws.{ReadsBack, SpelledAlone};
-ghost use Rattle.records.specs.Records.{RecordFits, spelling};
+ghost use Rattle.records.specs.Records.{spelling};
 use crate::buffer::put;
 use crate::draft::Draft;
 use records::Record;
@@ -12,7 +12,8 @@ use rules::Refusal;
 // The record as it is spelled on the tape.
 fn spelled(record: &Record) -> Draft
     ensures text { λ r. ⌜ drafted r ≡ spelling (now («record» .entry)) ⌝ }
-    ensures fits { λ _. ⌜ RecordFits (now («record» .entry)) ⌝ }
+    ensures read { λ _. ⌜ ReadsBack (now («record» .entry)) ⌝ }
+    ensures alone { λ _. ⌜ SpelledAlone (now («record» .entry)) ⌝ }
 {
     let kind = record.kind();
     let mut draft = Draft::new();

@@ -5,7 +5,7 @@ use lib.ListN.{length}
 use Rattle.std.specs.Of.Vec.{vec-items}
 use Rattle.records.specs.declared.Record.{Record}
 use Rattle.tape.proofs.Listed.{Sofar}
-use Rattle.tape.proofs.listing.listing.Given as given
+use Rattle.tape.proofs.listing.add_listing.Given as given
 
 abbrev pub Inv-loop-next : given.InvT-loop-next
 Inv-loop-next l = (l .reader .tape .now ≡ l .tape) × ((records : List Record) × Sofar (l .tape) (vec-items (l .text)) (l .reader .place) records)

@@ -3,26 +3,27 @@ use mathlib.Core.List.{_∷_, [], _++_}
 use native.Mathlib.Omega.{arith}
 use Rattle.std.specs.Of.Vec.{vec-items}
 use Rattle.std.specs.declared.result.Result.the-variants.{Ok, Err}
+use Rattle.std.proofs.shelf.Results.{made-weaker}
 use Rattle.rules.specs.Refusals.{number}
-use Rattle.tape.specs.Lines.{tapeLine}
+use Rattle.tape.specs.Lines.{tapeRefusedLine}
 use Rattle.tape.specs.Listings.{TheListing}
 use Rattle.tape.specs.Listings.Listing.{unopened}
 use Rattle.tape.proofs.Listed.{Sofar, one-more, at-end, at-fault, reads-as}
 use Rattle.tape.proofs.OnlyText.{the-listing}
-use Rattle.tape.proofs.listing.listing.Needs as need
+use Rattle.tape.proofs.listing.add_listing.Needs as need
 
 pub returns-in-Err : need.returns-in-Err
 returns-in-Err c =
     let tape = c .args .tape .now in
     let e = c .in-Err .refusal in
-    let begun = ap (λ l. l ++ tapeLine (number e) 0) (c .new-text .ensures .items) in
-    subst⁻¹ (TheListing tape) (c .in-Continue-add-fault .ensures tt ∙ begun) (the-listing tape _ (unopened e (c .in-Err .ensures tt)))
+    let begun = ap (λ l. l ++ tapeRefusedLine (number e) 0) (c .pre) in
+    made-weaker (c .add-fault .result) _ _ (λ _ text. subst⁻¹ (TheListing tape) (text ∙ begun) (the-listing tape _ (unopened e (c .in-Err .ensures tt)))) (c .add-fault .ensures)
 
 pub loop-next-less : need.loop-next-less
 loop-next-less c =
     let r = c .in-Some .record in
     let next = c .next-record .last .self .place in
-    let reads = reads-as (c .loop-next .reader .place) next (c .loop-next .inv .0) (ap (λ o. Ok o) (c .in-Some .is)) (c .in-Ok-next-record .ensures tt .reads) in
+    let reads = reads-as (c .loop-next .reader .place) next (c .loop-next .inv .0) (ap (λ o. Ok o) (c .in-Some .is)) (c .in-Ok-next-record .ensures tt .reading .reads) in
     let after = one-more (c .args .tape .now) _ _ _ (c .loop-next .inv .1 .1) r next reads in
     omega (arith, reads .2, after .inside)
 
@@ -32,7 +33,7 @@ loop-next-again c =
     let r = c .in-Some .record in
     let next = c .next-record .last .self .place in
     let told = c .in-Ok-next-record .ensures tt in
-    let reads = reads-as (c .loop-next .reader .place) next (c .loop-next .inv .0) (ap (λ o. Ok o) (c .in-Some .is)) (c .in-Ok-next-record .ensures tt .reads) in
+    let reads = reads-as (c .loop-next .reader .place) next (c .loop-next .inv .0) (ap (λ o. Ok o) (c .in-Some .is)) (c .in-Ok-next-record .ensures tt .reading .reads) in
     let records = c .loop-next .inv .1 .0 in
     let after = one-more tape _ _ records (c .loop-next .inv .1 .1) r next reads in
     let text = c .in-Continue-add-record .ensures tt in
@@ -42,7 +43,7 @@ pub returns-in-None : need.returns-in-None
 returns-in-None c =
     let tape = c .args .tape .now in
     let next = c .next-record .last .self .place in
-    let reads = reads-as (c .loop-next .reader .place) next (c .loop-next .inv .0) (ap (λ o. Ok o) (c .in-None .is)) (c .in-Ok-next-record .ensures tt .reads) in
+    let reads = reads-as (c .loop-next .reader .place) next (c .loop-next .inv .0) (ap (λ o. Ok o) (c .in-None .is)) (c .in-Ok-next-record .ensures tt .reading .reads) in
     the-listing tape _ (at-end tape _ _ _ (c .loop-next .inv .1 .1) next reads)
 
 pub returns-in-Err-next-record : need.returns-in-Err-next-record
@@ -50,6 +51,8 @@ returns-in-Err-next-record c =
     let tape = c .args .tape .now in
     let e = c .in-Err-next-record .refusal in
     let next = c .next-record .last .self .place in
-    let reads = reads-as {a = Err e} (c .loop-next .reader .place) next (c .loop-next .inv .0) refl (c .in-Err-next-record .ensures tt .reads) in
-    let here = ap (λ p. vec-items (c .loop-next .text) ++ tapeLine (number e) p) (c .place .ensures ∙ reads .2) in
-    subst⁻¹ (TheListing tape) (c .in-Continue-add-fault-2 .ensures tt ∙ here) (the-listing tape _ (at-fault tape _ _ _ (c .loop-next .inv .1 .1) e next reads))
+    let reads = reads-as {a = Err e} (c .loop-next .reader .place) next (c .loop-next .inv .0) refl (c .in-Err-next-record .ensures tt .reading .reads) in
+    let here = ap (λ p. vec-items (c .loop-next .text) ++ tapeRefusedLine (number e) p) (c .place .ensures ∙ reads .2) in
+    made-weaker (c .add-fault-in-Err-next-record .result) _ _
+    (λ _ text. subst⁻¹ (TheListing tape) (text ∙ here) (the-listing tape _ (at-fault tape _ _ _ (c .loop-next .inv .1 .1) e next reads)))
+    (c .add-fault-in-Err-next-record .ensures)

@@ -6,7 +6,7 @@ use Rattle.std.specs.Written.{decimal}
 use Rattle.tape.specs.Drafts.{drafted}
 use Rattle.tape.specs.Lines.{blank, newline}
 use Rattle.tape.proofs.Grown.{twice, joined-next, joined-whole}
-use Rattle.tape.proofs.lines.numbered.Needs as need
+use Rattle.tape.proofs.lines.with_line.Needs as need
 
 pub loop-n-again : need.loop-n-again
 loop-n-again c = (
