@@ -111,8 +111,9 @@ impl<'a> Reader<'a> {
         ensures reading { λ r. ⌜ Reading (now (now (self .entry) .tape)) (now (self .entry) .place) r (now (self .exit) .place) ⌝ }
         ensures same { λ _. ⌜ now (now (self .exit) .tape) ≡ now (now (self .entry) .tape) ⌝ }
     {
-        let (answer, next) = read_at(self.tape, self.place);
-        self.place = next;
+        let Reader { tape, place } = self;
+        let (answer, next) = read_at(tape, *place);
+        *place = next;
         answer
     }
 }
