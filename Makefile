@@ -5,6 +5,7 @@
 
 run:
 	@mkdir -p target
+	@echo 'proving and building list: about two minutes the first time' >&2
 	@rt check list > target/run.log 2>&1 || { cat target/run.log; exit 1; }
 	@target/bin/list < samples/session.tape
 
