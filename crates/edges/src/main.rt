@@ -1,5 +1,4 @@
 // Lists each tape of the bundle on standard input: a row of tapes, each behind its length in four bytes.
-use std::alloc::Global;
 use std::error::AnyError;
 use std::io::Read;
 use std::io::Write;
@@ -31,6 +30,9 @@ fn list_all(rt: &LibcRuntime, bundle: &[u8]) -> Result<(), AnyError> {
         println!(rt, "-- {number}")?;
         rt.stdout().write_all(text.as_slice())?;
         rest = behind;
+    }
+    if !rest.is_empty() {
+        return Err("the bundle is cut short".into());
     }
     Ok(())
 }

@@ -60,6 +60,28 @@ fn a_record_at_the_ends_of_its_widths_is_read_back() -> Result<(), Fail> {
 }
 
 #[test]
+fn the_longest_record_and_the_longest_line() -> Result<(), Fail> {
+    let longest = Record::Group(Group {
+        tick: u32::MAX,
+        greatest_quantity: u32::MAX,
+        liquid: u8::MAX,
+        settlement: u32::MAX,
+        form: u8::MAX,
+        bands: Bands {
+            buy_low: i32::MIN,
+            buy_high: i32::MIN,
+            sell_low: i32::MIN,
+            sell_high: i32::MIN,
+            auction_low: i32::MIN,
+            auction_high: i32::MIN,
+        },
+    });
+    let mut out = [0u8; ENOUGH_ROOM];
+    check_eq(write(&longest, &mut out), Ok(41))?;
+    check_eq(lines::listed(&longest, &mut out), Ok(115))
+}
+
+#[test]
 fn a_refused_reader_stays_before_the_record() -> Result<(), Fail> {
     let mut tape = [0u8; 45];
     tape[0] = 1;
@@ -72,7 +94,7 @@ fn a_refused_reader_stays_before_the_record() -> Result<(), Fail> {
 }
 
 #[test]
-fn tapes_that_are_not_opened() -> Result<(), Fail> {
+fn which_tapes_are_opened() -> Result<(), Fail> {
     check_eq(Reader::open(&[]).err(), Some(Refusal::NoVersionByte))?;
     check_eq(Reader::open(&[2]).err(), Some(Refusal::NoVersionByte))?;
     check_eq(Reader::open(&[1; 65_536]).err(), None)?;

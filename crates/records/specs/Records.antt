@@ -1,7 +1,6 @@
 -- How a record is spelled on the tape. Assumes nothing.
 use mathlib.Core.List.{List, [], _∷_, _++_}
 use Prim.Native.Nat.{ℕ, _+_, _<_, _^_}
-use lib.IntN.{ℤ}
 use lib.ListN.{length}
 use mir.Syntax.{w32}
 use mir.Val.{ofZ, SFits}
@@ -16,7 +15,7 @@ use Rattle.records.specs.declared.Kind.the-variants as kind
 use Rattle.records.specs.declared.Record.{Record}
 use Rattle.records.specs.declared.Record.the-variants as rec
 
--- the letter of each kind
+-- the letter of each kind: G, B, S, A, X, L and T
 abbrev pub letterOf : Kind → ℕ
 letterOf kind.Group = 71
 letterOf kind.Buy = 66

@@ -1,6 +1,6 @@
 -- The record that begins here, by what its length counts. Assumes nothing.
-use mathlib.Core.Path.{_≡_, refl, sym, ap, subst, _∙_}
-use mathlib.Core.List.{List, [], _∷_, _++_, append-assoc}
+use mathlib.Core.Path.{_≡_, sym, ap, _∙_}
+use mathlib.Core.List.{List, _∷_, _++_}
 use mathlib.Core.Logic.{_⊎_, inl, inr, ⊎-elim}
 use Prim.Native.Nat.{ℕ, _+_, _-_, _<_, _≤_}
 use native.Mathlib.Omega.{arith}
@@ -15,8 +15,8 @@ use Rattle.records.specs.Records.{letterOf, lengthOf, kindOf, fieldsOf, spelled
 use Rattle.tape.specs.Tapes.{stated, CutShort, kindLetter, MayStand, NoneOfThisKind, LengthWrong}
 use Rattle.records.specs.declared.Kind.{Kind}
 use Rattle.records.specs.declared.Record.{Record}
-use Rattle.tape.proofs.Letters.{same-kind}
-use Rattle.tape.proofs.Numbers.{Bytes, spelled-number}
+use Rattle.records.proofs.Letters.{same-kind}
+use Rattle.records.proofs.Numbers.{Bytes, spelled-number}
 
 module _ (rest body : List ℕ) (whole : CutShort rest → ⊥) (is : body ≡ take (stated rest) (drop 2 rest)) where
   there : 2 + stated rest ≤ length rest

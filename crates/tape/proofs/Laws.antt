@@ -1,12 +1,11 @@
 -- The laws of tapes and records. Assumes nothing.
 use mathlib.Core.Path.{_≡_, refl, sym, ap, subst, _∙_}
-use mathlib.Core.List.{List, [], _∷_, _++_, append-nil, append-assoc}
-use mathlib.Core.Logic.{_⊎_, inl, inr}
-use Prim.Native.Nat.{ℕ, _+_, _-_, _<_, _≤_, _^_}
+use mathlib.Core.List.{List, [], _∷_, _++_}
+use mathlib.Core.Logic.{inl, inr}
+use Prim.Native.Nat.{ℕ, _+_, _-_, _≤_}
 use native.Mathlib.Omega.{arith}
 use lib.ListN.{length, getD, take, drop, length-append}
 use lib.Seq.{take-add}
-use Rattle.std.specs.Joined.{joined}
 use Rattle.std.specs.shelf.Digits.{number}
 use Rattle.std.specs.declared.option.Option.{Option}
 use Rattle.std.specs.declared.option.Option.the-variants.{Some, None}
@@ -14,14 +13,13 @@ use Rattle.std.specs.declared.result.Result.{Result}
 use Rattle.std.specs.declared.result.Result.the-variants.{Ok, Err}
 use Rattle.std.proofs.shelf.Lists.{drop-all, drop-at, take-at, take-all, joined-more, drop-drop}
 use Rattle.rules.specs.declared.refusal.Refusal.{Refusal}
-use Rattle.records.specs.Bytes.{bigEndian}
-use Rattle.tape.specs.Laws.{OnlyAnswer, ReadsBack, SpelledAlone, WritesBack, GoesOn, Reading, given}
-use Rattle.records.specs.Records.{RecordFits, body, kindOf, letterOf, lengthOf, spelling}
-use Rattle.tape.specs.Tapes.{stated, CutShort, kindLetter, MayStand, NoneOfThisKind, LengthWrong, Faulty, Stands, Reads, ReadUpTo}
+use Rattle.tape.specs.Laws.{OnlyAnswer, ReadsBack, SpelledAlone, WritesBack, GoesOn, Reading}
+use Rattle.records.specs.Records.{RecordFits, body, kindOf, letterOf, spelling}
+use Rattle.tape.specs.Tapes.{stated, CutShort, kindLetter, MayStand, NoneOfThisKind, LengthWrong, Faulty, Stands, Reads}
 use Rattle.records.specs.declared.Record.{Record}
-use Rattle.tape.proofs.Decoded.{small, same-length, same-record}
-use Rattle.tape.proofs.Letters.{body-length}
-use Rattle.tape.proofs.Numbers.{number-spelled}
+use Rattle.records.proofs.Decoded.{small, same-record}
+use Rattle.records.proofs.Letters.{body-length}
+use Rattle.records.proofs.Numbers.{number-spelled}
 
 -- where a record stands, nothing is faulty
 module _ (rest after : List ℕ) (place : ℕ) (r : Record) (is : rest ≡ spelling r ++ after) (may : MayStand place (kindOf r)) where

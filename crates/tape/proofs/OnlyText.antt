@@ -1,10 +1,10 @@
 -- A tape has one listing. Assumes nothing.
 use mathlib.Core.Path.{_≡_, refl, sym, ap, subst, _∙_}
-use mathlib.Core.List.{List, [], _∷_, _++_, append-nil, append-assoc}
+use mathlib.Core.List.{List, [], _∷_, _++_, append-assoc}
 use mathlib.Core.Logic.{_⊎_, inl, inr}
-use Prim.Native.Nat.{ℕ, _+_, _<_, _≤_}
+use Prim.Native.Nat.{ℕ, _+_, _<_}
 use native.Mathlib.Omega.{arith}
-use lib.ListN.{length, getD, take, drop, length-append}
+use lib.ListN.{length, take, drop, length-append}
 use Rattle.std.specs.Joined.{joined}
 use Rattle.std.specs.shelf.Lists.{All}
 use Rattle.std.proofs.shelf.Lists.{append-cancel-left}
@@ -16,8 +16,8 @@ use Rattle.records.specs.declared.Record.{Record}
 use Rattle.tape.specs.Lines.{listedLine, tapeRefusedLine}
 use Rattle.tape.specs.Listings.{GroupFirst, Holds, Listing, TheListing, placeBehind}
 use Rattle.tape.specs.Listings.Listing.{unopened, whole, faulty}
-use Rattle.tape.specs.Tapes.{Faulty, MayStand, NotOpened, TooLong, Versioned}
-use Rattle.tape.proofs.Decoded.{same-record}
+use Rattle.tape.specs.Tapes.{Faulty, MayStand, NotOpened, Versioned}
+use Rattle.records.proofs.Decoded.{same-record}
 use Rattle.tape.proofs.Laws.{no-fault, one-fault}
 
 -- each record may stand where it stands, the first at the place

@@ -1,15 +1,14 @@
 -- What a reader answers, from what stands at its place. Assumes nothing.
 use mathlib.Core.Path.{_≡_, refl, sym, ap, subst, _∙_}
-use mathlib.Core.List.{List, [], _∷_, _++_}
-use Prim.Native.Nat.{ℕ, _+_, _-_, _<_, _≤_}
-use native.Mathlib.Omega.{arith}
-use lib.ListN.{length, getD, take, drop}
+use mathlib.Core.List.{List, _++_}
+use Prim.Native.Nat.{ℕ, _+_, _-_, _<_}
+use lib.ListN.{length, take, drop}
 use Rattle.std.proofs.shelf.Lists.{take-rest, drop-drop}
-use Rattle.std.specs.declared.option.Option.the-variants.{Some, None}
+use Rattle.std.specs.declared.option.Option.the-variants.{Some}
 use Rattle.std.specs.declared.result.Result.the-variants.{Ok, Err}
 use Rattle.rules.specs.declared.refusal.Refusal.{Refusal}
 use Rattle.records.specs.Records.{RecordFits, kindOf, spelling}
-use Rattle.tape.specs.Tapes.{Faulty, MayStand, Reads, Stands}
+use Rattle.tape.specs.Tapes.{Faulty, MayStand, Reads}
 use Rattle.records.specs.declared.Record.{Record}
 
 module _ (tape : List ℕ) (place : ℕ) where

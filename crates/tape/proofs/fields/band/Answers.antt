@@ -7,7 +7,7 @@ use mir.Syntax.{w32}
 use mir.Val.{toZ, ofZ, SFits}
 use Rattle.std.specs.shelf.Digits.{number}
 use Rattle.std.proofs.shelf.Signed.{ofZ-toZ, toZ-ofZ}
-use Rattle.tape.proofs.Numbers.{Bytes, front, number-four}
+use Rattle.records.proofs.Numbers.{Bytes, front, number-four}
 use Rattle.tape.proofs.fields.band.Needs as need
 
 pub returns : need.returns

@@ -1,6 +1,6 @@
 use borrow.Author.Needs.{needs}
 use mathlib.Core.Path.{sym, _∙_}
-use Rattle.tape.proofs.Numbers.{front, number-four}
+use Rattle.records.proofs.Numbers.{front, number-four}
 use Rattle.tape.proofs.fields.four.Needs as need
 
 pub returns : need.returns

@@ -1,11 +1,12 @@
 use mathlib.Core.Path.{refl, ap, subst⁻¹, _∙_}
 use mathlib.Core.List.{_∷_, [], _++_}
+use Prim.Native.Nat.{_<_}
 use native.Mathlib.Omega.{arith}
 use Rattle.std.specs.Of.Vec.{vec-items}
 use Rattle.std.specs.declared.result.Result.the-variants.{Ok, Err}
 use Rattle.std.proofs.shelf.Results.{made-weaker}
 use Rattle.rules.specs.Refusals.{number}
-use Rattle.tape.specs.Lines.{tapeRefusedLine}
+use Rattle.tape.specs.Lines.{listedLine, tapeRefusedLine}
 use Rattle.tape.specs.Listings.{TheListing}
 use Rattle.tape.specs.Listings.Listing.{unopened}
 use Rattle.tape.proofs.Listed.{Sofar, one-more, at-end, at-fault, reads-as}
@@ -19,25 +20,21 @@ returns-in-Err c =
     let begun = ap (λ l. l ++ tapeRefusedLine (number e) 0) (c .pre) in
     made-weaker (c .add-fault .result) _ _ (λ _ text. subst⁻¹ (TheListing tape) (text ∙ begun) (the-listing tape _ (unopened e (c .in-Err .ensures tt)))) (c .add-fault .ensures)
 
-pub loop-next-less : need.loop-next-less
-loop-next-less c =
-    let r = c .in-Some .record in
+-- the reader moved on behind one record more, which the text lists
+moved : (c : need.In-Continue-add-record) → let records = c .loop-next .inv .1 .0 ++ (c .in-Some .record ∷ []) in (c .loop-next .reader .place < c .next-record .last .self .place) × Sofar (c .args .tape .now) (vec-items (c .loop-next .text) ++ listedLine (c .in-Some .record)) (c .next-record .last .self .place) records
+moved c =
     let next = c .next-record .last .self .place in
     let reads = reads-as (c .loop-next .reader .place) next (c .loop-next .inv .0) (ap (λ o. Ok o) (c .in-Some .is)) (c .in-Ok-next-record .ensures tt .reading .reads) in
-    let after = one-more (c .args .tape .now) _ _ _ (c .loop-next .inv .1 .1) r next reads in
-    omega (arith, reads .2, after .inside)
+    (omega (arith, reads .2), one-more (c .args .tape .now) _ _ _ (c .loop-next .inv .1 .1) (c .in-Some .record) next reads)
+
+pub loop-next-less : need.loop-next-less
+loop-next-less c = let m = moved c in omega (arith, m .0, m .1 .inside)
 
 pub loop-next-again : need.loop-next-again
 loop-next-again c =
-    let tape = c .args .tape .now in
-    let r = c .in-Some .record in
-    let next = c .next-record .last .self .place in
-    let told = c .in-Ok-next-record .ensures tt in
-    let reads = reads-as (c .loop-next .reader .place) next (c .loop-next .inv .0) (ap (λ o. Ok o) (c .in-Some .is)) (c .in-Ok-next-record .ensures tt .reading .reads) in
-    let records = c .loop-next .inv .1 .0 in
-    let after = one-more tape _ _ records (c .loop-next .inv .1 .1) r next reads in
-    let text = c .in-Continue-add-record .ensures tt in
-    (told .same ∙ c .loop-next .inv .0, (records ++ (r ∷ []), subst⁻¹ (λ t. Sofar tape t next (records ++ (r ∷ []))) text after))
+    let records = c .loop-next .inv .1 .0 ++ (c .in-Some .record ∷ []) in
+    let lists = subst⁻¹ (λ t. Sofar (c .args .tape .now) t (c .next-record .last .self .place) records) (c .in-Continue-add-record .ensures tt) (moved c .1) in
+    (c .in-Ok-next-record .ensures tt .same ∙ c .loop-next .inv .0, (records, lists))
 
 pub returns-in-None : need.returns-in-None
 returns-in-None c =

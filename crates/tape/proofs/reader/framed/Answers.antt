@@ -2,10 +2,10 @@ use borrow.Author.Needs.{needs}
 use mathlib.Core.Path.{_≡_, sym, ap, _∙_}
 use Prim.Native.Nat.{_≤_}
 use native.Mathlib.Omega.{arith}
-use lib.ListN.{length, take, drop}
+use lib.ListN.{length}
 use Rattle.std.proofs.shelf.Lists.{take-rest, length-drop}
 use Rattle.tape.specs.Tapes.{stated}
-use Rattle.tape.proofs.Numbers.{number-two}
+use Rattle.records.proofs.Numbers.{number-two}
 use Rattle.tape.proofs.reader.framed.Needs as need
 
 pub returns : need.returns

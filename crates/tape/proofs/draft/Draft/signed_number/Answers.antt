@@ -1,11 +1,11 @@
 use borrow.Author.Needs.{needs}
 use mathlib.Core.Path.{sym, ap, _∙_}
-use mathlib.Core.List.{_++_, _∷_, [], append-assoc}
+use mathlib.Core.List.{_∷_, [], append-assoc}
 use native.Mathlib.Omega.{arith}
 use lib.IntN.{natAbs, pos}
 use lib.Signed.{ltZ}
 use mir.Syntax.{w32}
-use Rattle.std.specs.Written.{decimal, signed}
+use Rattle.std.specs.Written.{decimal}
 use Rattle.std.proofs.shelf.Signed.{toZ-ofZ}
 use Rattle.tape.specs.Drafts.{drafted}
 use Rattle.tape.proofs.Grown.{signed-below, signed-above}

@@ -1,4 +1,3 @@
-use borrow.Author.Needs.{needs}
 use native.Mathlib.Omega.{arith}
 use Rattle.tape.specs.Drafts.{drafted}
 use Rattle.records.specs.Records.{spelled}

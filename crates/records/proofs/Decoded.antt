@@ -1,8 +1,7 @@
 -- A record can be told from the bytes that spell it. Assumes nothing.
 use mathlib.Core.Path.{_≡_, refl, sym, ap, subst, _∙_}
-use mathlib.Core.List.{List, [], _∷_, _++_}
-use Prim.Native.Nat.{ℕ, _+_, _<_, _≤_, _^_}
-use native.Mathlib.Omega.{arith}
+use mathlib.Core.List.{List, _++_}
+use Prim.Native.Nat.{ℕ, _+_, _<_, _^_}
 use lib.IntN.{ℤ}
 use lib.Dec.{lit<}
 use lib.ListN.{length, getD, take, drop}
@@ -13,14 +12,14 @@ use Rattle.std.specs.Joined.{joined}
 use Rattle.std.specs.shelf.Digits.{number}
 use Rattle.std.proofs.shelf.Lists.{take-at}
 use Rattle.std.proofs.shelf.Signed.{toZ-ofZ}
 use Rattle.records.specs.Bytes.{bigEndian}
-use Rattle.records.specs.Records.{RecordFits, body, fieldsOf, kindOf, letterOf, lengthOf, spelled, spelling}
+use Rattle.records.specs.Records.{RecordFits, body, fieldsOf, kindOf, lengthOf, spelled, spelling}
 use Rattle.records.specs.declared.Kind.{Kind}
 use Rattle.records.specs.declared.Kind.the-variants as kind
 use Rattle.records.specs.declared.Record.{Record}
 use Rattle.records.specs.declared.Record.the-variants as rec
-use Rattle.tape.proofs.Letters.{same-kind, body-length}
-use Rattle.tape.proofs.Numbers.{number-spelled}
+use Rattle.records.proofs.Letters.{same-kind, body-length}
+use Rattle.records.proofs.Numbers.{number-spelled}
 
 -- the number in k bytes from place i
 abbrev at : ℕ → ℕ → List ℕ → ℕ
@@ -101,7 +100,7 @@ small r = subst (λ n. n < 256 ^ 2) (sym (body-length r)) (small-kind (kindOf r)
 
 -- a tape that begins with the spelling of one record does not begin with that of another
 module _ (r s : Record) (after other : List ℕ) (same : spelling r ++ after ≡ spelling s ++ other) where
-  pub same-length : length (body r) ≡ length (body s)
+  same-length : length (body r) ≡ length (body s)
   same-length = sym (number-spelled 2 (length (body r)) (small r)) ∙ ap (λ l. number 256 (take 2 l)) same ∙ number-spelled 2 (length (body s)) (small s)
 
   same-body : body r ≡ body s
