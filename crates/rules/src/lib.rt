@@ -2,6 +2,7 @@
 
 pub mod limits;
 pub mod refusal;
+pub mod tick;
 
 pub use limits::GREATEST_BAND;
 pub use limits::GREATEST_MEMBER;
@@ -15,3 +16,4 @@ pub use limits::MOST_ORDERS;
 pub use limits::MOST_TAPE_BYTES;
 pub use limits::MOST_TRADES;
 pub use refusal::Refusal;
+pub use tick::Tick;
