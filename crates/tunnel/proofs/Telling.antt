@@ -26,7 +26,7 @@ told-sums tells tally adds leaves n (x ∷ xs) t u e (m, first, rest) =
     let here : (b : Bool) → counts n x ≡ b → counts (tally t) x ≡ b = λ b eb. ap (λ k. counts k x) e ∙ eb in
     let P : Bool → Type 0 = λ b. tally u ≡ n + quantity-of (cond b (x ∷ counting (n + x .quantity) xs) (counting n xs)) in
     elim (counts n x) as (λ b. counts n x ≡ b → P b) [
-        true ↦ λ eb.
+      | true ↦ λ eb.
           let more = adds t x m first (subst T (sym (here true eb)) tt) ∙ ap (λ k. k + x .quantity) e in
           told-sums tells tally adds leaves (n + x .quantity) xs m u more rest ∙ add-assoc n (x .quantity) (quantity-of (counting (n + x .quantity) xs))
       | false ↦ λ eb.

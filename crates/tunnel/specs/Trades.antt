@@ -15,6 +15,10 @@ counts tally x =
 abbrev pub Counts : ℕ → ToldTrade → Type 0
 Counts tally x = T (counts tally x)
 
+-- the tally after a trade was told
+abbrev pub tallied : ℕ → ToldTrade → ℕ
+tallied tally x = cond (counts tally x) (tally + x .quantity) tally
+
 -- of the trades, told in this order from a tally on, those that count
 abbrev pub counting : ℕ → List ToldTrade → List ToldTrade
 counting tally [] = []

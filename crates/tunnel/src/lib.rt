@@ -5,8 +5,8 @@ pub mod meaning;
 pub mod retell;
 pub mod trade;
 
-pub use limits::askable;
 pub use limits::EVERY_PRICE;
 pub use limits::NO_PRICE;
+pub use limits::askable;
 pub use meaning::Tunnel;
 pub use trade::ToldTrade;

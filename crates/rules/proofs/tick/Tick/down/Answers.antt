@@ -7,6 +7,6 @@ pub returns : need.returns
 returns c =
     let rest = c .rem-euclid .ensures .value in
     record {
-        value = search (arith, ints, toZ-ofZ, rest);
-        rounded = down-rounded (c .args .self .value) (c .args .number) _ (c .args .self .within .0) (search (arith, ints, toZ-ofZ, rest))
+      value = search (arith, ints, toZ-ofZ, rest);
+      rounded = down-rounded (c .args .self .value) (c .args .number) _ (c .args .self .within .0) (search (arith, ints, toZ-ofZ, rest));
     }

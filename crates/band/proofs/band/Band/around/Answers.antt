@@ -1,0 +1,18 @@
+use lib.IntN.{pos, _+ℤ_}
+use Rattle.rules.specs.Ticks.{down, up}
+use Rattle.band.specs.Bands.{around}
+use Rattle.band.proofs.Ends.{both-ends, answered, low-summed, high-summed, around-rounded}
+use Rattle.band.proofs.band.Band.around.Needs as need
+
+pub returns : need.returns
+returns c =
+    let tick = c .args .tick .value in
+    let band = c .args .self in
+    let base = c .args .base in
+    let low = answered (down tick) (pos base +ℤ band .low) _ (c .down .result) (c .down .ok) (c .down .ensures .value) (low-summed base (band .low) (band .high) (c .pre) (band .within)) in
+    let high = answered (up tick) (pos base +ℤ band .high) _ (c .up .result) (c .up .ok) (c .up .ensures .value) (high-summed base (band .low) (band .high) (c .pre) (band .within)) in
+    let range = both-ends _ _ (around tick (band .low) (band .high) base) low high in
+    record {
+      range = range;
+      rounded = around-rounded tick (band .low) (band .high) base _ (c .args .tick .within .0) range;
+    }
