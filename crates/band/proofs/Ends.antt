@@ -1,24 +1,17 @@
 -- The ends of a range around a base price.
-use mathlib.Core.Path.{_≡_, _∙_, ap}
-use Prim.Native.Nat.{ℕ, _^_, _<_, _≤_}
+use mathlib.Core.Path.{_≡_, ap}
+use Prim.Native.Nat.{ℕ, _≤_}
 use native.Mathlib.Omega.{arith}
 use lib.IntN.{ℤ, pos, negℤ, _+ℤ_}
-use lib.Signed.{_≤ℤ_, mag}
-use mir.Syntax.{w32, w64}
+use lib.Signed.{_≤ℤ_}
+use mir.Syntax.{w32}
 use mir.Val.{toZ, ofZ}
-use Rattle.std.proofs.shelf.Signed.{ints, toZ-ofZ}
+use Rattle.std.proofs.shelf.Signed.{ints}
 use Rattle.rules.specs.Limits.{greatest-price, greatest-band}
 use Rattle.rules.specs.Ticks.{down, up}
 use Rattle.rules.proofs.Rounding.{down-rounded, up-rounded}
 use Rattle.tunnel.specs.Ranges.{Range}
 use Rattle.band.specs.Bands.{IsBand, around, Around}
-
-pub both-ends : (l h : ℤ) (range : Range) → l ≡ range .0 → h ≡ range .1 → (l, h) ≡ range
-both-ends l h range e f = λ i. (e i, f i)
-
--- an end that was answered as `r`, for a number `z` that was computed as `y`
-pub answered : (f : ℤ → ℤ) (z y r : ℤ) → mag r < 2 ^ 63 → r ≡ f y → y ≡ z → toZ w64 (ofZ w64 r) ≡ f z
-answered f z y r fits e same = toZ-ofZ w64 r (record { sfits = fits }) ∙ e ∙ ap f same
 
 -- a base price and a band within their limits, added as i32
 pub low-summed : (base : ℕ) (low high : ℤ) → base ≤ greatest-price → IsBand low high → toZ w32 (ofZ w32 (toZ w32 base +ℤ toZ w32 (ofZ w32 low))) ≡ pos base +ℤ low

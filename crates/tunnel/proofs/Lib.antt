@@ -1,2 +1,3 @@
 pub mod Telling
 pub mod Counting
+pub mod Ends

@@ -1,7 +1,8 @@
 use lib.IntN.{pos, _+ℤ_}
 use Rattle.rules.specs.Ticks.{down, up}
 use Rattle.band.specs.Bands.{around}
-use Rattle.band.proofs.Ends.{both-ends, answered, low-summed, high-summed, around-rounded}
+use Rattle.tunnel.proofs.Ends.{both-ends, answered}
+use Rattle.band.proofs.Ends.{low-summed, high-summed, around-rounded}
 use Rattle.band.proofs.band.Band.around.Needs as need
 
 pub returns : need.returns

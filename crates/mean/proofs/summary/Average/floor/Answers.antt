@@ -1,0 +1,14 @@
+use native.Mathlib.Omega.{arith}
+use Rattle.std.proofs.shelf.Signed.{ints}
+use Rattle.mean.proofs.Between.{floor-within}
+use Rattle.mean.proofs.summary.Average.floor.Needs as need
+
+pub cast-result : need.cast-result
+cast-result c =
+    let most = floor-within (c .args .self .value) (c .args .self .quantity) (c .pre .some) (c .pre .priced .0) in
+    omega (arith, ints)
+
+pub returns : need.returns
+returns c =
+    let most = floor-within (c .args .self .value) (c .args .self .quantity) (c .pre .some) (c .pre .priced .0) in
+    record { value = omega (arith, ints); bound = omega (arith, ints) }
