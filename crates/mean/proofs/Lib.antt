@@ -1,2 +1,3 @@
 pub mod Centres
 pub mod Between
+pub mod Remembering

@@ -6,10 +6,9 @@ ghost use Rattle.std.specs.Results.{Cases};
 ghost use Rattle.rules.specs.Limits.{greatest-price, greatest-band};
 ghost use Rattle.rules.specs.declared.refusal.Refusal.the-variants as refusal;
 ghost use Rattle.tunnel.specs.Ranges.{Askable, asked, every-price};
-ghost use Rattle.tunnel.specs.Trades.{Counts};
 ghost use Rattle.tunnel.specs.declared.trade.ToldTrade.{ToldTrade};
 ghost use Rattle.mean.specs.Means.{AreMeans, period, between, centre-at, Between};
-ghost use Rattle.mean.specs.Summaries.{Counted, Priced, Central, Remembers, centreIn};
+ghost use Rattle.mean.specs.Summaries.{Counted, Priced, Central, Remembers, RemembersWhatCounted, Tells, centreIn};
 use crate::summary::PERIOD;
 use crate::summary::Summary;
 use rules::GREATEST_BAND;
@@ -80,7 +79,7 @@ pub impl Tunnel for MeanTunnel as ByMean {
 
     ghost starts = { λ t u. (u .tick ≡ t .tick) × (u .«half_width» ≡ t .«half_width») × (u .settlement ≡ t .settlement) × Remembers (t .settlement) (u .summary) [] };
 
-    ghost tells = { λ t trade u. (u .tick ≡ t .tick) × (u .«half_width» ≡ t .«half_width») × (u .settlement ≡ t .settlement) × (Counts (t .summary .tally) trade → (u .summary .tally ≡ t .summary .tally + trade .quantity) × ((settlement : ℕ) (told : List ToldTrade) → Remembers settlement (t .summary) told → Remembers settlement (u .summary) (trade ∷ told))) × ((Counts (t .summary .tally) trade → ⊥) → u .summary ≡ t .summary) };
+    ghost tells = { λ t trade u. (u .tick ≡ t .tick) × (u .«half_width» ≡ t .«half_width») × (u .settlement ≡ t .settlement) × Tells (t .summary) trade (u .summary) };
 
     fn tally(&self) -> u64 {
         self.summary.tally
@@ -112,7 +111,10 @@ pub impl Tunnel for MeanTunnel as ByMean {
         self.around_mean(second)
     }
 
-    fn start_day(&mut self) {
+    fn start_day(&mut self)
+        ensures started { λ _. ⌜ (now (self .exit) .tick ≡ now (self .entry) .tick) × (now (self .exit) .«half_width» ≡ now (self .entry) .«half_width») × (now (self .exit) .settlement ≡ now (self .entry) .settlement) × Remembers (now (self .entry) .settlement) (now (self .exit) .summary) [] ⌝ }
+        ensures every { λ _. ⌜ RemembersWhatCounted ⌝ }
+    {
         self.summary = Summary::start(self.settlement);
     }
 

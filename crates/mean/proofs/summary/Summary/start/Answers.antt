@@ -1,0 +1,6 @@
+use borrow.Author.Needs.{needs}
+use Rattle.mean.proofs.Remembering.{remembers-what-counted}
+use Rattle.mean.proofs.summary.Summary.start.Needs as need
+
+pub returns : need.returns
+returns c = record { sound = search needs; remembers = search needs; every = remembers-what-counted }
