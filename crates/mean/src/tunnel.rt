@@ -15,11 +15,11 @@ use rules::GREATEST_BAND;
 use rules::GREATEST_PRICE;
 use rules::Refusal;
 use rules::Tick;
-use tunnel::EVERY_PRICE;
 use tunnel::NO_PRICE;
 use tunnel::ToldTrade;
 use tunnel::Tunnel;
 use tunnel::askable;
+use tunnel::every_price;
 
 // A tunnel around the mean price, with its limits the half-width away.
 #[derive(Drop)]
@@ -86,19 +86,11 @@ pub impl Tunnel for MeanTunnel as ByMean {
     }
 
     fn buy_range(&self, base: u32, second: u32) -> (i64, i64) {
-        if askable(base, second) {
-            EVERY_PRICE
-        } else {
-            NO_PRICE
-        }
+        every_price(base, second)
     }
 
     fn sell_range(&self, base: u32, second: u32) -> (i64, i64) {
-        if askable(base, second) {
-            EVERY_PRICE
-        } else {
-            NO_PRICE
-        }
+        every_price(base, second)
     }
 
     fn auction_range(&self, base: u32, second: u32) -> (i64, i64)

@@ -5,11 +5,11 @@ ghost use mathlib.Core.Bool.{cond};
 ghost use Rattle.tunnel.specs.Ranges.{asked, every-price};
 ghost use Rattle.tunnel.specs.Trades.{counts, tallied};
 ghost use Rattle.ranges.specs.Outside.{beside};
-use tunnel::EVERY_PRICE;
 use tunnel::NO_PRICE;
 use tunnel::ToldTrade;
 use tunnel::Tunnel;
 use tunnel::askable;
+use tunnel::every_price;
 
 #[derive(Drop)]
 pub struct LastPriceTunnel {
@@ -48,19 +48,11 @@ pub impl Tunnel for LastPriceTunnel as ByLastPrice {
     }
 
     fn buy_range(&self, base: u32, second: u32) -> (i64, i64) {
-        if askable(base, second) {
-            EVERY_PRICE
-        } else {
-            NO_PRICE
-        }
+        every_price(base, second)
     }
 
     fn sell_range(&self, base: u32, second: u32) -> (i64, i64) {
-        if askable(base, second) {
-            EVERY_PRICE
-        } else {
-            NO_PRICE
-        }
+        every_price(base, second)
     }
 
     fn auction_range(&self, base: u32, second: u32) -> (i64, i64) {

@@ -8,5 +8,6 @@ pub mod trade;
 pub use limits::EVERY_PRICE;
 pub use limits::NO_PRICE;
 pub use limits::askable;
+pub use limits::every_price;
 pub use meaning::Tunnel;
 pub use trade::ToldTrade;

@@ -1,6 +1,6 @@
 // What a tunnel may be asked.
 ghost use mathlib.Core.Path.{_≡_};
-ghost use Rattle.tunnel.specs.Ranges.{askable};
+ghost use Rattle.tunnel.specs.Ranges.{askable, asked, every-price};
 use rules::GREATEST_PRICE;
 use rules::GREATEST_SECOND;
 
@@ -15,4 +15,15 @@ pub fn askable(base: u32, second: u32) -> bool
     ensures { λ r. ⌜ r ≡ askable base second ⌝ }
 {
     1 <= base && base <= GREATEST_PRICE && second <= GREATEST_SECOND
+}
+
+// The answer of a tunnel that turns no price away.
+pub fn every_price(base: u32, second: u32) -> (i64, i64)
+    ensures { λ r. ⌜ r ≡ asked base second every-price ⌝ }
+{
+    if askable(base, second) {
+        EVERY_PRICE
+    } else {
+        NO_PRICE
+    }
 }
