@@ -12,14 +12,14 @@ use tunnel::askable;
 use tunnel::every_price;
 
 #[derive(Drop)]
-pub struct LastPriceTunnel {
+pub(crate) struct LastPriceTunnel {
     width: u32,
     last: u32,
     tally: u64,
 }
 
 impl LastPriceTunnel {
-    pub fn new(width: u32, first: u32) -> LastPriceTunnel
+    pub(crate) fn new(width: u32, first: u32) -> LastPriceTunnel
         ensures { λ r. ⌜ (r .width ≡ width) × (r .last ≡ first) × (r .tally ≡ 0) ⌝ }
     {
         LastPriceTunnel {
@@ -30,7 +30,7 @@ impl LastPriceTunnel {
     }
 }
 
-pub impl Tunnel for LastPriceTunnel as ByLastPrice {
+pub(crate) impl Tunnel for LastPriceTunnel as ByLastPrice {
     ghost tally = { λ t. t .tally };
 
     ghost buying = { λ _ base second. asked base second every-price };
