@@ -22,6 +22,10 @@ pub record Remembers (settlement : ℕ) (s : Summary) (xs : List ToldTrade) : Ty
   pub centred : fraction (s .centre) ≡ centre settlement xs (latest xs)
   pub last : s .last ≡ price-before settlement (latest xs + 1) xs
 
+-- the summary is of some trades
+abbrev pub RemembersSome : ℕ → Summary → Type 0
+RemembersSome settlement s = ∥ ((told : List ToldTrade) × Remembers settlement s told) ∥₁
+
 -- what a told trade makes of a summary
 abbrev pub Tells : Summary → ToldTrade → Summary → Type 0
 Tells s x u =

@@ -7,7 +7,7 @@ ghost use lib.Signed.{_≤ℤ_};
 ghost use Rattle.tunnel.specs.Trades.{Counts};
 ghost use Rattle.tunnel.specs.declared.trade.ToldTrade.{ToldTrade};
 ghost use Rattle.mean.specs.Means.{between, Between};
-ghost use Rattle.mean.specs.Summaries.{fraction, Priced, Sound, Remembers, RemembersWhatCounted, centreIn};
+ghost use Rattle.mean.specs.Summaries.{fraction, Priced, Sound, Remembers, RemembersSome, RemembersWhatCounted, centreIn};
 ghost use Rattle.rules.specs.Limits.{greatest-price, greatest-band, greatest-tally};
 use rules::Tick;
 use tunnel::ToldTrade;
@@ -105,6 +105,7 @@ impl Summary {
         requires { ⌜ settlement ≤ greatest-price ⌝ }
         ensures sound { λ r. ⌜ Sound r ⌝ }
         ensures remembers { λ r. ⌜ Remembers settlement r [] ⌝ }
+        ensures some { λ r. ⌜ RemembersSome settlement r ⌝ }
         ensures every { λ _. ⌜ RemembersWhatCounted ⌝ }
     {
         Summary {
@@ -157,6 +158,7 @@ impl Summary {
         ensures sound { λ r. ⌜ Sound r ⌝ }
         ensures tally { λ r. ⌜ r .tally ≡ self .tally + trade .quantity ⌝ }
         ensures remembers { λ r. ⌜ ((settlement : ℕ) (told : List ToldTrade) → Remembers settlement self told → Remembers settlement r (trade ∷ told)) ⌝ }
+        ensures some { λ r. ⌜ ((settlement : ℕ) → RemembersSome settlement self → RemembersSome settlement r) ⌝ }
     {
         let period = trade.second / PERIOD;
         Summary {

@@ -8,7 +8,7 @@ ghost use Rattle.rules.specs.declared.refusal.Refusal.the-variants as refusal;
 ghost use Rattle.tunnel.specs.Ranges.{Askable, asked, every-price};
 ghost use Rattle.tunnel.specs.declared.trade.ToldTrade.{ToldTrade};
 ghost use Rattle.mean.specs.Means.{AreMeans, period, between, centre-at, Between};
-ghost use Rattle.mean.specs.Summaries.{Counted, Priced, Central, Remembers, RemembersWhatCounted, Tells, centreIn};
+ghost use Rattle.mean.specs.Summaries.{Counted, Priced, Central, Remembers, RemembersSome, RemembersWhatCounted, Tells, centreIn};
 use crate::summary::PERIOD;
 use crate::summary::Summary;
 use rules::GREATEST_BAND;
@@ -34,6 +34,7 @@ pub struct MeanTunnel {
     ghost current: { Priced (summary .current) },
     ghost centred: { Priced (summary .centre) },
     ghost central: { Central summary },
+    ghost remembering: { RemembersSome settlement summary },
 }
 
 impl MeanTunnel {
@@ -96,6 +97,7 @@ pub impl Tunnel for MeanTunnel as ByMean {
     fn auction_range(&self, base: u32, second: u32) -> (i64, i64)
         ensures range { λ r. ⌜ r ≡ asked base second (between (now (self .entry) .tick .value) (now (self .entry) .«half_width») (centreIn (now (self .entry) .summary) (period second))) ⌝ }
         ensures rule { λ r. ⌜ ((settlement : ℕ) (told : List ToldTrade) → Remembers settlement (now (self .entry) .summary) told → Askable base second → Between (now (self .entry) .tick .value) (now (self .entry) .«half_width») (centre-at settlement told second) r) ⌝ }
+        ensures remembers { λ _. ⌜ RemembersSome (now (self .entry) .settlement) (now (self .entry) .summary) ⌝ }
     {
         if !askable(base, second) {
             return NO_PRICE;
