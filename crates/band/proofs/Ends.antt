@@ -2,13 +2,11 @@
 use mathlib.Core.Path.{_≡_, ap}
 use Prim.Native.Nat.{ℕ, _≤_}
 use native.Mathlib.Omega.{arith}
-use lib.IntN.{ℤ, pos, negℤ, _+ℤ_}
-use lib.Signed.{_≤ℤ_}
+use lib.IntN.{ℤ, pos, _+ℤ_}
 use mir.Syntax.{w32}
 use mir.Val.{toZ, ofZ}
 use Rattle.std.proofs.shelf.Signed.{ints}
-use Rattle.rules.specs.Limits.{greatest-price, greatest-band}
-use Rattle.rules.specs.Ticks.{down, up}
+use Rattle.rules.specs.Limits.{greatest-price}
 use Rattle.rules.proofs.Rounding.{down-rounded, up-rounded}
 use Rattle.tunnel.specs.Ranges.{Range}
 use Rattle.band.specs.Bands.{IsBand, around, Around}

@@ -1,6 +1,5 @@
 // The band tunnel.
 ghost use mathlib.Core.Path.{_≡_};
-ghost use Prim.Native.Nat.{ℕ};
 ghost use Rattle.std.specs.Results.{Cases};
 ghost use Rattle.rules.specs.Ticks.{IsTick};
 ghost use Rattle.rules.specs.declared.refusal.Refusal.the-variants as refusal;

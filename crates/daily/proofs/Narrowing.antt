@@ -1,5 +1,5 @@
 -- What a layer of limits makes of the ranges below.
-use mathlib.Core.Path.{_≡_, _∙_, ap}
+use mathlib.Core.Path.{_≡_, _∙_}
 use Prim.Native.Nat.{ℕ}
 use lib.IntN.{pos}
 use Rattle.std.specs.Numbers.{maxZ, minZ}

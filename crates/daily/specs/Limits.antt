@@ -1,7 +1,7 @@
 -- Daily limits, and what they leave of a range. Assumes nothing.
 use mathlib.Core.Bool.{cond}
 use Prim.Native.Nat.{ℕ, _≤_}
-use lib.IntN.{ℤ, pos}
+use lib.IntN.{pos}
 use Rattle.std.specs.Numbers.{maxZ, minZ}
 use Rattle.rules.specs.Limits.{greatest-price}
 use Rattle.tunnel.specs.Ranges.{Range, askable}

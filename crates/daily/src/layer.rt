@@ -1,8 +1,5 @@
 // The layer of daily limits.
 ghost use mathlib.Core.Path.{_≡_};
-ghost use Prim.Native.Nat.{ℕ};
-ghost use lib.IntN.{ℤ};
-ghost use Rattle.tunnel.specs.Ranges.{Askable};
 ghost use Rattle.daily.specs.Limits.{limited};
 use crate::limits::DailyLimits;
 use tunnel::ToldTrade;

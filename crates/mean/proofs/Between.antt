@@ -4,13 +4,13 @@ use Prim.Native.Nat.{ℕ, zero, suc, _+_, _-_, _*_, _/_, _%_, _^_, _<_, _≤_, m
 use native.Mathlib.Nat.{mod-add-div', mod-lt, suc-mul, mul-le-mul-right, add-zero, mul-comm, div-le-of-le-mul}
 use native.Mathlib.Numerals.{add-one}
 use native.Mathlib.Omega.{arith}
-use lib.IntN.{ℤ, pos, negsuc, negℤ, _+ℤ_, _-ℤ_, _*ℤ_}
+use lib.IntN.{ℤ, pos, negsuc, _+ℤ_, _-ℤ_, _*ℤ_}
 use lib.Signed.{_≤ℤ_, _<ℤ_, mag}
 use mir.Syntax.{w32, w64}
 use mir.Val.{toZ, ofZ}
 use Rattle.std.proofs.shelf.Signed.{ints}
 use Rattle.rules.specs.Limits.{greatest-price, greatest-band}
-use Rattle.rules.specs.Ticks.{RoundedDown, RoundedUp, down, up}
+use Rattle.rules.specs.Ticks.{down, up}
 use Rattle.rules.proofs.Rounding.{down-rounded, up-rounded}
 use Rattle.tunnel.specs.Ranges.{Range}
 use Rattle.mean.specs.Means.{Fraction, LowLimit, HighLimit, Between, between}

@@ -1,16 +1,15 @@
 -- The centre, by the trades and by the summary of them.
-use mathlib.Core.Path.{_≡_, refl, sym, _∙_, ap, subst}
-use mathlib.Core.Bool.{Bool, true, false, cond, not, _&&_}
+use mathlib.Core.Path.{_≡_, refl, sym, _∙_, ap}
+use mathlib.Core.Bool.{cond}
 use mathlib.Core.Logic.{_⊎_, inl, inr}
 use mathlib.Core.List.{List, [], _∷_}
 use Prim.Native.Nat.{ℕ, _+_, _*_, _<_, _≤_, max}
 use native.Mathlib.Nat.{zero-add}
 use native.Mathlib.Omega.{arith}
-use lib.Dec.{eqb, ltb, leb}
+use lib.Dec.{eqb}
 use Rattle.tunnel.specs.declared.trade.ToldTrade.{ToldTrade}
-use Rattle.mean.specs.Means.{Fraction, period, latest, sum-before, value-before, quantity-before, price-before, centre, centre-at}
+use Rattle.mean.specs.Means.{Fraction, period, latest, sum-before, value-before, quantity-before, price-before, centre}
 use Rattle.mean.specs.Summaries.{Remembers, fraction, centreIn}
-use Rattle.mean.specs.declared.summary.Average.{Average}
 use Rattle.mean.specs.declared.summary.Summary.{Summary}
 
 -- of a period that begins later than the next, no trade counts in the one before

@@ -1,7 +1,7 @@
 // The mean-price tunnel.
 ghost use mathlib.Core.Path.{_≡_};
-ghost use mathlib.Core.List.{List, [], _∷_};
-ghost use Prim.Native.Nat.{ℕ, _+_, _≤_};
+ghost use mathlib.Core.List.{List, []};
+ghost use Prim.Native.Nat.{ℕ, _≤_};
 ghost use Rattle.std.specs.Results.{Cases};
 ghost use Rattle.rules.specs.Limits.{greatest-price, greatest-band};
 ghost use Rattle.rules.specs.declared.refusal.Refusal.the-variants as refusal;

@@ -1,6 +1,5 @@
 // A tunnel of an outside maker, with a rule of its own: trades stay within a width of the price last told.
 ghost use mathlib.Core.Path.{_≡_};
-ghost use Prim.Native.Nat.{ℕ};
 ghost use mathlib.Core.Bool.{cond};
 ghost use Rattle.tunnel.specs.Ranges.{asked, every-price};
 ghost use Rattle.tunnel.specs.Trades.{counts, tallied};

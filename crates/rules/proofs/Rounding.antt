@@ -1,9 +1,9 @@
 -- What is rounded is the nearest multiple on its side.
 use mathlib.Core.Path.{_≡_, refl, sym, subst}
-use Prim.Native.Nat.{ℕ, zero, suc, _+_, _*_, _/_, _%_, _≤_, _<_}
+use Prim.Native.Nat.{ℕ, zero, suc, _*_, _/_, _≤_}
 use native.Mathlib.Nat.{mod-add-div', mod-lt, suc-mul, zero-mul}
 use native.Mathlib.Omega.{arith}
-use lib.IntN.{ℤ, pos, negsuc, negℤ, _+ℤ_, _-ℤ_, _*ℤ_}
+use lib.IntN.{ℤ, pos, negsuc, negℤ, _*ℤ_}
 use Rattle.std.proofs.shelf.Signed.{ints}
 use Rattle.rules.specs.Ticks.{RoundedDown, RoundedUp, down, up}
 
