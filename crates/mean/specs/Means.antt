@@ -12,11 +12,6 @@ use Rattle.rules.specs.Ticks.{IsTick, Multiple, down, up}
 use Rattle.tunnel.specs.Ranges.{Range}
 use Rattle.tunnel.specs.declared.trade.ToldTrade.{ToldTrade}
 
--- the trades `ys`, told in this order after `xs`
-abbrev pub newest-first : List ToldTrade → List ToldTrade → List ToldTrade
-newest-first [] xs = xs
-newest-first (y ∷ ys) xs = newest-first ys (y ∷ xs)
-
 -- period k is the seconds 15k to 15k + 14
 abbrev pub period : ℕ → ℕ
 period second = second / 15

@@ -5,9 +5,9 @@ use mathlib.Core.List.{List, [], _∷_}
 use Prim.Native.Nat.{ℕ, _+_, _*_, _≤_}
 use lib.Dec.{eqb, leb}
 use Rattle.rules.specs.Limits.{greatest-price, greatest-tally}
-use Rattle.tunnel.specs.Trades.{Counts, Told, counting, quantity-of}
+use Rattle.tunnel.specs.Trades.{Counts, Told, counting, newest-first, quantity-of}
 use Rattle.tunnel.specs.declared.trade.ToldTrade.{ToldTrade}
-use Rattle.mean.specs.Means.{Fraction, newest-first, latest, value-before, quantity-before, price-before, centre}
+use Rattle.mean.specs.Means.{Fraction, latest, value-before, quantity-before, price-before, centre}
 use Rattle.mean.specs.declared.summary.Average.{Average}
 use Rattle.mean.specs.declared.summary.Summary.{Summary}
 

@@ -24,6 +24,11 @@ abbrev pub counting : ℕ → List ToldTrade → List ToldTrade
 counting tally [] = []
 counting tally (x ∷ xs) = cond (counts tally x) (x ∷ counting (tally + x .quantity) xs) (counting tally xs)
 
+-- the trades `ys`, told in this order after `xs`, as a list with the trade last told first
+abbrev pub newest-first : List ToldTrade → List ToldTrade → List ToldTrade
+newest-first [] xs = xs
+newest-first (y ∷ ys) xs = newest-first ys (y ∷ xs)
+
 abbrev pub quantity-of : List ToldTrade → ℕ
 quantity-of [] = 0
 quantity-of (x ∷ xs) = x .quantity + quantity-of xs
