@@ -222,8 +222,12 @@ tell 5 0 0
 tell 5 10001 0
 tell 5 1 100001
 ask 1000 0
+ask 1000 15
+ask 1000 30
 tell 5 1 0
 ask 1000 0
+ask 1000 15
+ask 1000 30
 ask 0 0
 start
 ask 1000 0

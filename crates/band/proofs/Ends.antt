@@ -2,21 +2,19 @@
 use mathlib.Core.Path.{_≡_, ap}
 use Prim.Native.Nat.{ℕ, _≤_}
 use native.Mathlib.Omega.{arith}
-use lib.IntN.{ℤ, pos, _+ℤ_}
+use lib.IntN.{ℤ, pos, negℤ, _+ℤ_}
+use lib.Signed.{_≤ℤ_}
 use mir.Syntax.{w32}
 use mir.Val.{toZ, ofZ}
 use Rattle.std.proofs.shelf.Signed.{ints}
-use Rattle.rules.specs.Limits.{greatest-price}
+use Rattle.rules.specs.Limits.{greatest-price, greatest-band}
 use Rattle.rules.proofs.Rounding.{down-rounded, up-rounded}
 use Rattle.tunnel.specs.Ranges.{Range}
-use Rattle.band.specs.Bands.{IsBand, around, Around}
+use Rattle.band.specs.Bands.{around, Around}
 
--- a base price and a band within their limits, added as i32
-pub low-summed : (base : ℕ) (low high : ℤ) → base ≤ greatest-price → IsBand low high → toZ w32 (ofZ w32 (toZ w32 base +ℤ toZ w32 (ofZ w32 low))) ≡ pos base +ℤ low
-low-summed base low high b (l, l0, h0, h) = omega (arith, ints)
-
-pub high-summed : (base : ℕ) (low high : ℤ) → base ≤ greatest-price → IsBand low high → toZ w32 (ofZ w32 (toZ w32 base +ℤ toZ w32 (ofZ w32 high))) ≡ pos base +ℤ high
-high-summed base low high b (l, l0, h0, h) = omega (arith, ints)
+-- a base price and a distance within their limits, added as i32
+pub summed : (base : ℕ) (z : ℤ) → base ≤ greatest-price → negℤ (pos greatest-band) ≤ℤ z → z ≤ℤ pos greatest-band → toZ w32 (ofZ w32 (toZ w32 base +ℤ toZ w32 (ofZ w32 z))) ≡ pos base +ℤ z
+summed base z b l h = omega (arith, ints)
 
 pub around-rounded : (tick : ℕ) (low high : ℤ) (base : ℕ) (range : Range) → 1 ≤ tick → range ≡ around tick low high base → Around tick low high base range
 around-rounded tick low high base range h e =

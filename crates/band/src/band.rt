@@ -1,10 +1,8 @@
 // How far a range's ends lie from the base price.
 ghost use mathlib.Core.Path.{_≡_};
-ghost use lib.IntN.{ℤ, pos, negℤ};
-ghost use lib.Signed.{_≤ℤ_};
 ghost use Prim.Native.Nat.{_≤_};
 ghost use Rattle.std.specs.Results.{Cases};
-ghost use Rattle.rules.specs.Limits.{greatest-band, greatest-price};
+ghost use Rattle.rules.specs.Limits.{greatest-price};
 ghost use Rattle.rules.specs.declared.refusal.Refusal.the-variants as refusal;
 ghost use Rattle.band.specs.Bands.{IsBand, around, Around};
 use rules::GREATEST_BAND;
@@ -16,7 +14,7 @@ use rules::Tick;
 pub struct Band {
     low: i32,
     high: i32,
-    ghost within: { (negℤ (pos greatest-band) ≤ℤ low) × (low ≤ℤ pos 0) × (pos 0 ≤ℤ high) × (high ≤ℤ pos greatest-band) },
+    ghost within: { IsBand low high },
 }
 
 impl Band {

@@ -3,9 +3,8 @@ ghost use mathlib.Core.Path.{_≡_};
 ghost use Rattle.std.specs.Results.{Cases};
 ghost use Rattle.rules.specs.Ticks.{IsTick};
 ghost use Rattle.rules.specs.declared.refusal.Refusal.the-variants as refusal;
-ghost use Rattle.tunnel.specs.Ranges.{Askable, asked};
 ghost use Rattle.tunnel.specs.Trades.{tallied};
-ghost use Rattle.band.specs.Bands.{around, Around};
+ghost use Rattle.band.specs.Tunnels.{ranging, Ranging};
 use crate::band::Band;
 use rules::Refusal;
 use rules::Tick;
@@ -43,8 +42,8 @@ impl BandTunnel {
 
     // The range that a band gives.
     fn range(&self, band: Band, base: u32, second: u32) -> (i64, i64)
-        ensures range { λ r. ⌜ r ≡ asked base second (around (now (self .entry) .tick .value) (band .low) (band .high) base) ⌝ }
-        ensures rounded { λ r. ⌜ (Askable base second → Around (now (self .entry) .tick .value) (band .low) (band .high) base r) ⌝ }
+        ensures range { λ r. ⌜ r ≡ ranging (now (self .entry)) band base second ⌝ }
+        ensures rounded { λ r. ⌜ Ranging (now (self .entry)) band base second r ⌝ }
     {
         if !askable(base, second) {
             return NO_PRICE;
@@ -56,11 +55,11 @@ impl BandTunnel {
 pub impl Tunnel for BandTunnel as ByBands {
     ghost tally = { λ t. t .tally };
 
-    ghost buying = { λ t base second. asked base second (around (t .tick .value) (t .buy .low) (t .buy .high) base) };
+    ghost buying = { λ t. ranging t (t .buy) };
 
-    ghost selling = { λ t base second. asked base second (around (t .tick .value) (t .sell .low) (t .sell .high) base) };
+    ghost selling = { λ t. ranging t (t .sell) };
 
-    ghost auction = { λ t base second. asked base second (around (t .tick .value) (t .auction .low) (t .auction .high) base) };
+    ghost auction = { λ t. ranging t (t .auction) };
 
     ghost starts = { λ t u. u ≡ record { tick = t .tick; buy = t .buy; sell = t .sell; auction = t .auction; tally = 0 } };
 
@@ -71,22 +70,22 @@ pub impl Tunnel for BandTunnel as ByBands {
     }
 
     fn buy_range(&self, base: u32, second: u32) -> (i64, i64)
-        ensures range { λ r. ⌜ r ≡ asked base second (around (now (self .entry) .tick .value) (now (self .entry) .buy .low) (now (self .entry) .buy .high) base) ⌝ }
-        ensures rounded { λ r. ⌜ (Askable base second → Around (now (self .entry) .tick .value) (now (self .entry) .buy .low) (now (self .entry) .buy .high) base r) ⌝ }
+        ensures range { λ r. ⌜ r ≡ ranging (now (self .entry)) (now (self .entry) .buy) base second ⌝ }
+        ensures rounded { λ r. ⌜ Ranging (now (self .entry)) (now (self .entry) .buy) base second r ⌝ }
     {
         self.range(self.buy, base, second)
     }
 
     fn sell_range(&self, base: u32, second: u32) -> (i64, i64)
-        ensures range { λ r. ⌜ r ≡ asked base second (around (now (self .entry) .tick .value) (now (self .entry) .sell .low) (now (self .entry) .sell .high) base) ⌝ }
-        ensures rounded { λ r. ⌜ (Askable base second → Around (now (self .entry) .tick .value) (now (self .entry) .sell .low) (now (self .entry) .sell .high) base r) ⌝ }
+        ensures range { λ r. ⌜ r ≡ ranging (now (self .entry)) (now (self .entry) .sell) base second ⌝ }
+        ensures rounded { λ r. ⌜ Ranging (now (self .entry)) (now (self .entry) .sell) base second r ⌝ }
     {
         self.range(self.sell, base, second)
     }
 
     fn auction_range(&self, base: u32, second: u32) -> (i64, i64)
-        ensures range { λ r. ⌜ r ≡ asked base second (around (now (self .entry) .tick .value) (now (self .entry) .auction .low) (now (self .entry) .auction .high) base) ⌝ }
-        ensures rounded { λ r. ⌜ (Askable base second → Around (now (self .entry) .tick .value) (now (self .entry) .auction .low) (now (self .entry) .auction .high) base r) ⌝ }
+        ensures range { λ r. ⌜ r ≡ ranging (now (self .entry)) (now (self .entry) .auction) base second ⌝ }
+        ensures rounded { λ r. ⌜ Ranging (now (self .entry)) (now (self .entry) .auction) base second r ⌝ }
     {
         self.range(self.auction, base, second)
     }

@@ -1,8 +1,6 @@
 // Daily limits.
 ghost use mathlib.Core.Path.{_≡_};
-ghost use Prim.Native.Nat.{_≤_};
 ghost use Rattle.std.specs.Results.{Cases};
-ghost use Rattle.rules.specs.Limits.{greatest-price};
 ghost use Rattle.rules.specs.declared.refusal.Refusal.the-variants as refusal;
 ghost use Rattle.daily.specs.Limits.{AreLimits};
 use rules::GREATEST_PRICE;
@@ -13,7 +11,7 @@ use rules::Refusal;
 pub struct DailyLimits {
     pub(crate) low: u32,
     pub(crate) high: u32,
-    ghost within: { (1 ≤ low) × (low ≤ high) × (high ≤ greatest-price) },
+    ghost within: { AreLimits low high },
 }
 
 impl DailyLimits {

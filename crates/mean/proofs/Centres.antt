@@ -9,7 +9,7 @@ use native.Mathlib.Omega.{arith}
 use lib.Dec.{eqb}
 use Rattle.tunnel.specs.declared.trade.ToldTrade.{ToldTrade}
 use Rattle.mean.specs.Means.{Fraction, period, latest, sum-before, value-before, quantity-before, price-before, centre}
-use Rattle.mean.specs.Summaries.{Remembers, fraction, centreIn}
+use Rattle.mean.specs.Summaries.{Remembers, fraction, centre-in}
 use Rattle.mean.specs.declared.summary.Summary.{Summary}
 
 -- of a period that begins later than the next, no trade counts in the one before
@@ -25,33 +25,33 @@ price-any settlement j k [] g h = refl
 price-any settlement j k (x ∷ xs) g h = grind arith
 
 -- before, in, and after the period that follows the latest
-centred-before : (settlement : ℕ) (s : Summary) (xs : List ToldTrade) (k : ℕ) → Remembers settlement s xs → k ≤ latest xs → centreIn s k ≡ centre settlement xs (max k (latest xs))
+centred-before : (settlement : ℕ) (s : Summary) (xs : List ToldTrade) (k : ℕ) → Remembers settlement s xs → k ≤ latest xs → centre-in s k ≡ centre settlement xs (max k (latest xs))
 centred-before settlement s xs k r h =
     let e : max k (latest xs) ≡ latest xs = omega arith in
-    let here : centreIn s k ≡ fraction (s .centre) = grind (arith, r .period) in
+    let here : centre-in s k ≡ fraction (s .centre) = grind (arith, r .period) in
     here ∙ r .centred ∙ ap (centre settlement xs) (sym e)
 
-centred-next : (settlement : ℕ) (s : Summary) (xs : List ToldTrade) (k : ℕ) → Remembers settlement s xs → k ≡ latest xs + 1 → centreIn s k ≡ centre settlement xs (max k (latest xs))
+centred-next : (settlement : ℕ) (s : Summary) (xs : List ToldTrade) (k : ℕ) → Remembers settlement s xs → k ≡ latest xs + 1 → centre-in s k ≡ centre settlement xs (max k (latest xs))
 centred-next settlement s xs k r h =
     let e : max k (latest xs) ≡ latest xs + 1 = omega arith in
     let q : s .current .quantity ≡ quantity-before (latest xs + 1) xs = ap (λ f. f .1) (r .current) in
     let v : s .current .value ≡ value-before (latest xs + 1) xs = ap (λ f. f .0) (r .current) in
-    let here : centreIn s k ≡ centre settlement xs (latest xs + 1) = grind (arith, q, v, r .period, r .last, h) in
+    let here : centre-in s k ≡ centre settlement xs (latest xs + 1) = grind (arith, q, v, r .period, r .last, h) in
     here ∙ ap (centre settlement xs) (sym e)
 
-centred-later : (settlement : ℕ) (s : Summary) (xs : List ToldTrade) (k : ℕ) → Remembers settlement s xs → latest xs + 1 < k → centreIn s k ≡ centre settlement xs (max k (latest xs))
+centred-later : (settlement : ℕ) (s : Summary) (xs : List ToldTrade) (k : ℕ) → Remembers settlement s xs → latest xs + 1 < k → centre-in s k ≡ centre settlement xs (max k (latest xs))
 centred-later settlement s xs k r h =
     let e : max k (latest xs) ≡ k = omega arith in
     let none = sum-none (λ x. x .quantity) k xs h in
     let price = r .last ∙ price-any settlement (latest xs + 1) k xs (omega arith) (omega arith) in
-    let here : centreIn s k ≡ centre settlement xs k = grind (arith, none, price, r .period) in
+    let here : centre-in s k ≡ centre settlement xs k = grind (arith, none, price, r .period) in
     here ∙ ap (centre settlement xs) (sym e)
 
 split : (k n : ℕ) → (k ≤ n) ⊎ ((k ≡ n + 1) ⊎ (n + 1 < k))
 split k n = grind arith
 
 -- what the summary answers is the centre of the trades that it is of
-pub centre-kept : (settlement : ℕ) (s : Summary) (xs : List ToldTrade) (k : ℕ) → Remembers settlement s xs → centreIn s k ≡ centre settlement xs (max k (latest xs))
+pub centre-kept : (settlement : ℕ) (s : Summary) (xs : List ToldTrade) (k : ℕ) → Remembers settlement s xs → centre-in s k ≡ centre settlement xs (max k (latest xs))
 centre-kept settlement s xs k r =
     elim (split k (latest xs)) [
       | inl h ↦ centred-before settlement s xs k r h
@@ -83,7 +83,7 @@ price-now : (settlement : ℕ) (x : ToldTrade) (xs : List ToldTrade) → price-b
 price-now settlement x xs = grind arith
 
 -- a summary with a trade more is of the trades with that one in front
-grown : (settlement : ℕ) (s t : Summary) (x : ToldTrade) (xs : List ToldTrade) → Remembers settlement s xs → t .tally ≡ s .tally + x .quantity → fraction (t .centre) ≡ centreIn s (period (x .second)) → t .last ≡ x .price → t .period ≡ latest (x ∷ xs) → fraction (t .current) ≡ (value-before (latest (x ∷ xs) + 1) (x ∷ xs), quantity-before (latest (x ∷ xs) + 1) (x ∷ xs)) → Remembers settlement t (x ∷ xs)
+grown : (settlement : ℕ) (s t : Summary) (x : ToldTrade) (xs : List ToldTrade) → Remembers settlement s xs → t .tally ≡ s .tally + x .quantity → fraction (t .centre) ≡ centre-in s (period (x .second)) → t .last ≡ x .price → t .period ≡ latest (x ∷ xs) → fraction (t .current) ≡ (value-before (latest (x ∷ xs) + 1) (x ∷ xs), quantity-before (latest (x ∷ xs) + 1) (x ∷ xs)) → Remembers settlement t (x ∷ xs)
 grown settlement s t x xs r tally centred last at current = record {
   tally = omega (arith, tally, r .tally);
   period = at;
@@ -93,7 +93,7 @@ grown settlement s t x xs r tally centred last at current = record {
 }
 
 -- `before` is what was told in the period that the trade counts in
-pub grown-by : (settlement : ℕ) (s t : Summary) (x : ToldTrade) (xs : List ToldTrade) (before : Fraction) → Remembers settlement s xs → t .tally ≡ s .tally + x .quantity → fraction (t .centre) ≡ centreIn s (period (x .second)) → t .last ≡ x .price → t .period ≡ max (s .period) (period (x .second)) → (period (x .second) ≤ s .period → before ≡ fraction (s .current)) → (s .period < period (x .second) → before ≡ (0, 0)) → t .current .value ≡ before .0 + x .price * x .quantity → t .current .quantity ≡ before .1 + x .quantity → Remembers settlement t (x ∷ xs)
+pub grown-by : (settlement : ℕ) (s t : Summary) (x : ToldTrade) (xs : List ToldTrade) (before : Fraction) → Remembers settlement s xs → t .tally ≡ s .tally + x .quantity → fraction (t .centre) ≡ centre-in s (period (x .second)) → t .last ≡ x .price → t .period ≡ max (s .period) (period (x .second)) → (period (x .second) ≤ s .period → before ≡ fraction (s .current)) → (s .period < period (x .second) → before ≡ (0, 0)) → t .current .value ≡ before .0 + x .price * x .quantity → t .current .quantity ≡ before .1 + x .quantity → Remembers settlement t (x ∷ xs)
 grown-by settlement s t x xs before r tally centred last at latest-told later-told value quantity =
     let at-latest : t .period ≡ latest (x ∷ xs) = omega (arith, at, r .period) in
     let paid : ToldTrade → ℕ = λ y. y .price * y .quantity in

@@ -1,3 +1,3 @@
-pub mod Centres
 pub mod Between
-pub mod Remembering
+pub mod Centres
+pub mod Days

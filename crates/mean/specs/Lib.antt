@@ -1,2 +1,3 @@
 pub mod Means
 pub mod Summaries
+pub mod Tunnels

@@ -72,6 +72,12 @@ between tick w (value, quantity) = (
   up tick (pos (value / quantity + min 1 (value % quantity)) +ℤ pos w) -ℤ pos 1,
 )
 
+abbrev pub IsWidth : ℕ → Type 0
+IsWidth w = (1 ≤ w) × (w ≤ greatest-band)
+
+abbrev pub IsPrice : ℕ → Type 0
+IsPrice price = (1 ≤ price) × (price ≤ greatest-price)
+
 -- tick, half-width and settlement price within their limits
-abbrev pub AreMeans : ℕ → ℕ → ℕ → Type 0
-AreMeans tick w settlement = IsTick tick × (1 ≤ w) × (w ≤ greatest-band) × (1 ≤ settlement) × (settlement ≤ greatest-price)
+abbrev pub AreParameters : ℕ → ℕ → ℕ → Type 0
+AreParameters tick w settlement = IsTick tick × IsWidth w × IsPrice settlement

@@ -1,11 +1,11 @@
 -- What the tunnel keeps of the trades it was told. Assumes nothing.
 use mathlib.Core.Path.{_≡_}
 use mathlib.Core.Bool.{cond, not, _&&_}
-use mathlib.Core.List.{List, [], _∷_}
+use mathlib.Core.List.{List}
 use Prim.Native.Nat.{ℕ, _+_, _*_, _≤_}
 use lib.Dec.{eqb, leb}
 use Rattle.rules.specs.Limits.{greatest-price, greatest-tally}
-use Rattle.tunnel.specs.Trades.{Counts, Told, counting, newest-first, quantity-of}
+use Rattle.tunnel.specs.Trades.{quantity-of}
 use Rattle.tunnel.specs.declared.trade.ToldTrade.{ToldTrade}
 use Rattle.mean.specs.Means.{Fraction, latest, value-before, quantity-before, price-before, centre}
 use Rattle.mean.specs.declared.summary.Average.{Average}
@@ -26,19 +26,9 @@ pub record Remembers (settlement : ℕ) (s : Summary) (xs : List ToldTrade) : Ty
 abbrev pub RemembersSome : ℕ → Summary → Type 0
 RemembersSome settlement s = ∥ ((told : List ToldTrade) × Remembers settlement s told) ∥₁
 
--- what a told trade makes of a summary
-abbrev pub Tells : Summary → ToldTrade → Summary → Type 0
-Tells s x u =
-    (Counts (s .tally) x → (u .tally ≡ s .tally + x .quantity) × ((settlement : ℕ) (xs : List ToldTrade) → Remembers settlement s xs → Remembers settlement u (x ∷ xs))) × ((Counts (s .tally) x → ⊥) → u ≡ s)
-
--- after any trades told from a day's start on, the summary is of those that count
-abbrev pub RemembersWhatCounted : Type 0
-RemembersWhatCounted =
-    (settlement : ℕ) (s u : Summary) (told : List ToldTrade) → Remembers settlement s [] → Told Tells s told u → Remembers settlement u (newest-first (counting 0 told) [])
-
 -- the centre in a period, by what the summary keeps
-abbrev pub centreIn : Summary → ℕ → Fraction
-centreIn s k =
+abbrev pub centre-in : Summary → ℕ → Fraction
+centre-in s k =
     cond (leb k (s .period)) (fraction (s .centre)) (cond (eqb k (s .period + 1) && not (eqb (s .current .quantity) 0)) (fraction (s .current)) (s .last, 1))
 
 -- no price of the average is above the greatest

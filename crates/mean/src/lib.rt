@@ -1,7 +1,8 @@
-// The mean-price tunnel: a trade too far from the mean price of the fifteen seconds before goes to auction.
+// The mean-price tunnel: a trade too far from the mean price of the period before goes to auction.
 
+pub mod rule;
 mod summary;
 pub mod tunnel;
 
-pub use tunnel::ByMean;
+pub use rule::ByMean;
 pub use tunnel::MeanTunnel;

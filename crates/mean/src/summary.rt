@@ -7,7 +7,7 @@ ghost use lib.Signed.{_≤ℤ_};
 ghost use Rattle.tunnel.specs.Trades.{Counts};
 ghost use Rattle.tunnel.specs.declared.trade.ToldTrade.{ToldTrade};
 ghost use Rattle.mean.specs.Means.{between, Between};
-ghost use Rattle.mean.specs.Summaries.{fraction, Priced, Sound, Remembers, RemembersSome, RemembersWhatCounted, centreIn};
+ghost use Rattle.mean.specs.Summaries.{fraction, Priced, Sound, Remembers, RemembersSome, centre-in};
 ghost use Rattle.rules.specs.Limits.{greatest-price, greatest-band, greatest-tally};
 use rules::Tick;
 use tunnel::ToldTrade;
@@ -106,7 +106,6 @@ impl Summary {
         ensures sound { λ r. ⌜ Sound r ⌝ }
         ensures remembers { λ r. ⌜ Remembers settlement r [] ⌝ }
         ensures some { λ r. ⌜ RemembersSome settlement r ⌝ }
-        ensures every { λ _. ⌜ RemembersWhatCounted ⌝ }
     {
         Summary {
             tally: 0,
@@ -123,7 +122,7 @@ impl Summary {
     // The centre in a period.
     pub(crate) fn centre(self, period: u32) -> Average
         requires { ⌜ Sound self ⌝ }
-        ensures centre { λ r. ⌜ fraction r ≡ centreIn self period ⌝ }
+        ensures centre { λ r. ⌜ fraction r ≡ centre-in self period ⌝ }
         ensures priced { λ r. ⌜ Priced r ⌝ ∗ ⌜ 1 ≤ r .quantity ⌝ }
     {
         if period <= self.period {

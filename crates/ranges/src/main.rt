@@ -64,46 +64,54 @@ fn distance(words: &mut SplitWhitespace) -> Result<i32, AnyError> {
     Ok(word(words)?.parse::<i32>()?)
 }
 
+fn bands(words: &mut SplitWhitespace) -> Result<[i32; 6], AnyError> {
+    Ok([
+        distance(words)?,
+        distance(words)?,
+        distance(words)?,
+        distance(words)?,
+        distance(words)?,
+        distance(words)?,
+    ])
+}
+
 fn read(line: &str) -> Result<Line, AnyError> {
     let mut words = line.split_whitespace();
-    let line = match word(&mut words)? {
+    let words = &mut words;
+    let line = match word(words)? {
         "band" => Line::Band {
-            tick: number(&mut words)?,
-            bands: [
-                distance(&mut words)?,
-                distance(&mut words)?,
-                distance(&mut words)?,
-                distance(&mut words)?,
-                distance(&mut words)?,
-                distance(&mut words)?,
-            ],
+            tick: number(words)?,
+            bands: bands(words)?,
         },
         "mean" => Line::Mean {
-            tick: number(&mut words)?,
-            half_width: number(&mut words)?,
-            settlement: number(&mut words)?,
+            tick: number(words)?,
+            half_width: number(words)?,
+            settlement: number(words)?,
         },
         "last" => Line::Last {
-            width: number(&mut words)?,
-            first: number(&mut words)?,
+            width: number(words)?,
+            first: number(words)?,
         },
         "limits" => Line::Limits {
-            low: number(&mut words)?,
-            high: number(&mut words)?,
+            low: number(words)?,
+            high: number(words)?,
         },
         "start" => Line::Start,
         "tell" => Line::Tell(ToldTrade {
-            price: number(&mut words)?,
-            quantity: number(&mut words)?,
-            second: number(&mut words)?,
+            price: number(words)?,
+            quantity: number(words)?,
+            second: number(words)?,
         }),
         "ask" => Line::Ask {
-            base: number(&mut words)?,
-            second: number(&mut words)?,
+            base: number(words)?,
+            second: number(words)?,
         },
         _ => return Err("a line begins with no known word".into()),
     };
-    Ok(line)
+    match words.next() {
+        Some(_) => Err("a line has too many words".into()),
+        None => Ok(line),
+    }
 }
 
 fn refused(rt: &LibcRuntime, refusal: Refusal) -> Result<(), AnyError> {
@@ -124,14 +132,17 @@ fn show<T: Tunnel>(rt: &LibcRuntime, tunnel: &T, base: u32, second: u32) -> Resu
     Ok(())
 }
 
-// Starts days, tells and asks as the lines of the block say.
+// Starts days, tells and asks as the lines behind the first one say.
 fn answer<T: Tunnel + Drop>(rt: &LibcRuntime, mut tunnel: T, block: &str) -> Result<(), AnyError> {
-    for line in block.lines() {
+    let mut lines = block.lines();
+    let _ = lines.next();
+    for line in lines {
         match read(line)? {
             Line::Start => tunnel.start_day(),
             Line::Tell(trade) => tunnel.tell(trade),
             Line::Ask { base, second } => show(rt, &tunnel, base, second)?,
-            _ => {}
+            Line::Limits { .. } => {}
+            _ => return Err("a block has two tunnels".into()),
         }
     }
     Ok(())
@@ -146,7 +157,7 @@ enum Layers {
 }
 
 impl Layers {
-    fn under(self, limits: DailyLimits) -> Result<Layers, AnyError> {
+    fn with(self, limits: DailyLimits) -> Result<Layers, AnyError> {
         match self {
             Layers::None => Ok(Layers::One(limits)),
             Layers::One(below) => Ok(Layers::Two(below, limits)),
@@ -163,7 +174,7 @@ fn layers_of(rt: &LibcRuntime, block: &str) -> Result<Layers, AnyError> {
             continue;
         };
         match DailyLimits::new(low, high) {
-            Ok(limits) => layers = layers.under(limits)?,
+            Ok(limits) => layers = layers.with(limits)?,
             Err(refusal) => refused(rt, refusal)?,
         }
     }

@@ -103,16 +103,18 @@ fn the_tally_stays_at_its_greatest() -> Result<(), Fail> {
     let mut tunnel = averaged()?;
     tunnel.start_day();
     for _ in 0..10_000_000u32 {
-        tunnel.tell(trade(10_000_000, 10_000, 100_000));
+        tunnel.tell(trade(10_000_000, 10_000, 99_980));
     }
     check_eq(tunnel.tally(), GREATEST_TALLY)?;
-    tunnel.tell(trade(1, 1, 100_000));
+    tunnel.tell(trade(1, 1, 99_980));
     check_eq(tunnel.tally(), GREATEST_TALLY)?;
-    check_eq(tunnel.auction_range(1, 100_000), (887, 913))
+    check_eq(tunnel.auction_range(1, 99_980), (887, 913))?;
+    check_eq(tunnel.auction_range(1, 99_990), (9_999_987, 10_000_013))?;
+    check_eq(tunnel.auction_range(1, 100_000), (9_999_987, 10_000_013))
 }
 
 #[test]
-fn what_is_outside_the_limits_changes_nothing_and_gets_no_price() -> Result<(), Fail> {
+fn a_trade_outside_the_limits_changes_nothing() -> Result<(), Fail> {
     let mut tunnel = averaged()?;
     tunnel.tell(trade(0, 1, 20));
     tunnel.tell(trade(10_000_001, 1, 20));
@@ -120,16 +122,22 @@ fn what_is_outside_the_limits_changes_nothing_and_gets_no_price() -> Result<(), 
     tunnel.tell(trade(1000, 10_001, 20));
     tunnel.tell(trade(1000, 1, 100_001));
     check_eq(tunnel.tally(), 4)?;
+    check_eq(tunnel.auction_range(1000, 3), (887, 913))?;
     check_eq(tunnel.auction_range(1000, 15), (989, 1016))?;
+    check_eq(tunnel.auction_range(1000, 31), (997, 1023))
+}
+
+#[test]
+fn a_question_outside_the_limits_gets_no_price() -> Result<(), Fail> {
+    let tunnel = averaged()?;
     check_eq(tunnel.auction_range(0, 15), NO_PRICE)?;
     check_eq(tunnel.auction_range(10_000_001, 15), NO_PRICE)?;
     check_eq(tunnel.auction_range(1000, 100_001), NO_PRICE)?;
-    check_eq(
-        DailyLimits::new(1, 2)?
-            .over(tunnel)
-            .buy_range(1000, 100_001),
-        NO_PRICE,
-    )
+    check_eq(tunnel.buy_range(0, 15), NO_PRICE)?;
+    let limited = DailyLimits::new(1, 2)?.over(banded(1)?);
+    check_eq(limited.buy_range(1000, 100_001), NO_PRICE)?;
+    check_eq(limited.sell_range(0, 0), NO_PRICE)?;
+    check_eq(limited.auction_range(10_000_001, 0), NO_PRICE)
 }
 
 #[test]
@@ -147,26 +155,37 @@ fn limits_over_limits_over_the_mean() -> Result<(), Fail> {
 }
 
 #[test]
-fn a_field_outside_its_limits_is_refused() -> Result<(), Fail> {
-    check_eq(Band::new(1, 0).err(), Some(Refusal::TunnelOutsideLimits))?;
-    check_eq(
-        Band::new(0, 1_000_001).err(),
-        Some(Refusal::TunnelOutsideLimits),
-    )?;
-    check_eq(banded(0).err(), Some(Refusal::TunnelOutsideLimits))?;
-    check_eq(banded(1001).err(), Some(Refusal::TunnelOutsideLimits))?;
-    check_eq(
-        MeanTunnel::new(1, 0, 1).err(),
-        Some(Refusal::TunnelOutsideLimits),
-    )?;
-    check_eq(
-        MeanTunnel::new(1, 1, 10_000_001).err(),
-        Some(Refusal::TunnelOutsideLimits),
-    )?;
-    check_eq(
-        DailyLimits::new(2, 1).err(),
-        Some(Refusal::TunnelOutsideLimits),
-    )
+fn a_band_or_tick_outside_its_limits_is_refused() -> Result<(), Fail> {
+    let refused = Some(Refusal::TunnelOutsideLimits);
+    check_eq(Band::new(-1_000_001, 0).err(), refused)?;
+    check_eq(Band::new(1, 1).err(), refused)?;
+    check_eq(Band::new(-1, -1).err(), refused)?;
+    check_eq(Band::new(0, 1_000_001).err(), refused)?;
+    check_eq(Band::new(-1_000_000, 1_000_000).err(), None)?;
+    check_eq(banded(0).err(), refused)?;
+    check_eq(banded(1001).err(), refused)
+}
+
+#[test]
+fn a_mean_tunnel_outside_its_limits_is_refused() -> Result<(), Fail> {
+    let refused = Some(Refusal::TunnelOutsideLimits);
+    check_eq(MeanTunnel::new(0, 1, 1).err(), refused)?;
+    check_eq(MeanTunnel::new(1, 0, 1).err(), refused)?;
+    check_eq(MeanTunnel::new(1, 1_000_001, 1).err(), refused)?;
+    check_eq(MeanTunnel::new(1, 1, 0).err(), refused)?;
+    check_eq(MeanTunnel::new(1, 1, 10_000_001).err(), refused)?;
+    check_eq(MeanTunnel::new(1000, 1_000_000, 10_000_000).err(), None)
+}
+
+#[test]
+fn limits_outside_their_limits_are_refused_and_cost_no_tunnel() -> Result<(), Fail> {
+    let refused = Some(Refusal::TunnelOutsideLimits);
+    let tunnel = averaged()?;
+    check_eq(DailyLimits::new(0, 1).err(), refused)?;
+    check_eq(DailyLimits::new(2, 1).err(), refused)?;
+    check_eq(DailyLimits::new(1, 10_000_001).err(), refused)?;
+    let limited = DailyLimits::new(1, 10_000_000)?.over(tunnel);
+    check_eq(limited.tally(), 4)
 }
 
 #[test]

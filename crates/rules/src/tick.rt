@@ -1,8 +1,6 @@
 // The tick of a contract.
 ghost use mathlib.Core.Path.{_≡_};
-ghost use Prim.Native.Nat.{_≤_};
 ghost use Rattle.std.specs.Options.{Cases};
-ghost use Rattle.rules.specs.Limits.{greatest-tick};
 ghost use Rattle.rules.specs.Ticks.{IsTick, down, up, RoundedDown, RoundedUp};
 use crate::limits::GREATEST_TICK;
 
@@ -10,7 +8,7 @@ use crate::limits::GREATEST_TICK;
 #[derive(Clone, Copy)]
 pub struct Tick {
     value: u32,
-    ghost within: { (1 ≤ value) × (value ≤ greatest-tick) },
+    ghost within: { IsTick value },
 }
 
 impl Tick {
@@ -31,8 +29,23 @@ impl Tick {
         self.value
     }
 
-    // The greatest multiple of the tick that is at most the number.
+    // The number rounded down: the greatest multiple of the tick that is at most the number.
     pub fn down(self, number: i32) -> i64
+        ensures value { λ r. ⌜ r ≡ down (self .value) number ⌝ }
+        ensures rounded { λ r. ⌜ RoundedDown (self .value) number r ⌝ }
+    {
+        self.multiple_below(number)
+    }
+
+    // The number rounded up: the least multiple of the tick that is at least the number.
+    pub fn up(self, number: i32) -> i64
+        ensures value { λ r. ⌜ r ≡ up (self .value) number ⌝ }
+        ensures rounded { λ r. ⌜ RoundedUp (self .value) number r ⌝ }
+    {
+        self.multiple_above(number)
+    }
+
+    fn multiple_below(self, number: i32) -> i64
         ensures value { λ r. ⌜ r ≡ down (self .value) number ⌝ }
         ensures rounded { λ r. ⌜ RoundedDown (self .value) number r ⌝ }
     {
@@ -40,8 +53,7 @@ impl Tick {
         number - number.rem_euclid(self.value as i64)
     }
 
-    // The least multiple of the tick that is at least the number.
-    pub fn up(self, number: i32) -> i64
+    fn multiple_above(self, number: i32) -> i64
         ensures value { λ r. ⌜ r ≡ up (self .value) number ⌝ }
         ensures rounded { λ r. ⌜ RoundedUp (self .value) number r ⌝ }
     {

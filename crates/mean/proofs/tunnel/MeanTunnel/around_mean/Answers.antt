@@ -9,7 +9,7 @@ returns c =
     let here = c .centre-centre .ensures .centre in
     record {
       range = c .range .ensures .range ∙ ap (between (tunnel .tick .value) (tunnel .«half_width»)) here;
-      rule = λ settlement told r.
+      rule = λ told r.
           let P : Fraction → Type 0 = λ f. Between (tunnel .tick .value) (tunnel .«half_width») f (c .range .result) in
-          subst P (here ∙ centre-kept settlement (tunnel .summary) told (period (c .args .second)) r) (c .range .ensures .limits);
+          subst P (here ∙ centre-kept (tunnel .settlement) (tunnel .summary) told (period (c .args .second)) r) (c .range .ensures .limits);
     }

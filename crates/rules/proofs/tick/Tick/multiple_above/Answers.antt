@@ -1,7 +1,7 @@
 use native.Mathlib.Omega.{arith}
 use Rattle.std.proofs.shelf.Signed.{ints, toZ-ofZ}
 use Rattle.rules.proofs.Rounding.{up-rounded}
-use Rattle.rules.proofs.tick.Tick.up.Needs as need
+use Rattle.rules.proofs.tick.Tick.multiple_above.Needs as need
 
 pub returns : need.returns
 returns c =

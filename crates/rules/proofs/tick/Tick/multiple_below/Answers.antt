@@ -1,7 +1,7 @@
 use native.Mathlib.Omega.{arith}
 use Rattle.std.proofs.shelf.Signed.{ints, toZ-ofZ}
 use Rattle.rules.proofs.Rounding.{down-rounded}
-use Rattle.rules.proofs.tick.Tick.down.Needs as need
+use Rattle.rules.proofs.tick.Tick.multiple_below.Needs as need
 
 pub returns : need.returns
 returns c =

@@ -1,0 +1,6 @@
+use borrow.Author.Needs.{needs}
+use Rattle.mean.proofs.Days.{range-by-what-counted}
+use Rattle.mean.proofs.tunnel.MeanTunnel.restart.Needs as need
+
+pub returns : need.returns
+returns c = record { started = search needs; every = range-by-what-counted }
