@@ -22,7 +22,7 @@ greatest-quantity = 10_000
 abbrev pub greatest-tick : ℕ
 greatest-tick = 1_000
 
--- bands and half-widths of tunnels are at most this far from the base price
+-- bands and half-widths of tunnels are at most this, without sign
 abbrev pub greatest-band : ℕ
 greatest-band = 1_000_000
 

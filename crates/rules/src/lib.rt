@@ -1,4 +1,4 @@
-// What every layer shares: the limits, and the one list of refusals.
+// What every layer shares: the limits, the one list of refusals, and the tick.
 
 pub mod limits;
 pub mod refusal;

@@ -15,7 +15,7 @@ pub const GREATEST_QUANTITY: u32 = 10_000;
 // Ticks run from 1 to this.
 pub const GREATEST_TICK: u32 = 1_000;
 
-// Bands and half-widths of tunnels are at most this far from the base price.
+// Bands and half-widths of tunnels are at most this, without sign.
 pub const GREATEST_BAND: i32 = 1_000_000;
 
 // A tunnel's tally never passes this.
