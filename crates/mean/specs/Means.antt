@@ -16,7 +16,8 @@ use Rattle.tunnel.specs.declared.trade.ToldTrade.{ToldTrade}
 abbrev pub period : ℕ → ℕ
 period second = second / 15
 
--- the latest period of the trades; the trade last told counts in it, also if its own second is of an earlier one
+-- the latest period of the trades, 0 if there are none; the trade last told counts in it, also if its own second is of
+-- an earlier period
 abbrev pub latest : List ToldTrade → ℕ
 latest [] = 0
 latest (x ∷ xs) = max (period (x .second)) (latest xs)
@@ -26,10 +27,11 @@ abbrev pub sum-before : (ToldTrade → ℕ) → ℕ → List ToldTrade → ℕ
 sum-before f k [] = 0
 sum-before f k (x ∷ xs) = cond (eqb (latest (x ∷ xs) + 1) k) (f x) 0 + sum-before f k xs
 
+-- the quantity of those trades
 abbrev pub quantity-before : ℕ → List ToldTrade → ℕ
 quantity-before = sum-before (λ x. x .quantity)
 
--- price by quantity
+-- what was paid for it: the sum of price by quantity
 abbrev pub value-before : ℕ → List ToldTrade → ℕ
 value-before = sum-before (λ x. x .price * x .quantity)
 

@@ -20,6 +20,7 @@ Askable base second = T (askable base second)
 abbrev pub no-price : Range
 no-price = (pos 1, pos 0)
 
+-- the range that turns no price away
 abbrev pub every-price : Range
 every-price = (pos 1, pos greatest-price)
 

@@ -29,6 +29,7 @@ abbrev pub newest-first : List ToldTrade → List ToldTrade → List ToldTrade
 newest-first [] xs = xs
 newest-first (y ∷ ys) xs = newest-first ys (y ∷ xs)
 
+-- the sum of their quantities
 abbrev pub quantity-of : List ToldTrade → ℕ
 quantity-of [] = 0
 quantity-of (x ∷ xs) = x .quantity + quantity-of xs
