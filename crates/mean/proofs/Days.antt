@@ -3,7 +3,7 @@ use mathlib.Core.Path.{_≡_, sym, _∙_, ap, subst}
 use mathlib.Core.List.{List, []}
 use Prim.Native.Nat.{ℕ, _≤_}
 use native.Mathlib.Omega.{arith}
-use Rattle.tunnel.specs.Ranges.{Range, Askable, askable, no-price}
+use Rattle.tunnel.specs.Ranges.{Range, askable, no-price}
 use Rattle.tunnel.specs.Trades.{counting, newest-first}
 use Rattle.tunnel.specs.declared.trade.ToldTrade.{ToldTrade}
 use Rattle.tunnel.proofs.Counting.{chosen}
@@ -26,14 +26,12 @@ alike-trans t u v (a, b, c) (d, e, f) = (d ∙ a, e ∙ b, f ∙ c)
 still : (t u : MeanTunnel) (told : List ToldTrade) → Alike t u → u .summary ≡ t .summary → Remembered t told → Remembered u told
 still t u told (tick, width, settled) same r = subst (λ s. Remembers (u .settlement) s told) (sym same) (subst (λ p. Remembers p (t .summary) told) (sym settled) r)
 
--- the range of a tunnel that remembers these trades
-ruled : (t : MeanTunnel) (told : List ToldTrade) (base second : ℕ) → Remembered t told → Askable base second → ByTheRule t told second (auctioning t base second)
-ruled t told base second r h =
+-- what a tunnel that remembers these trades computes is by the rule
+pub ruled : (t : MeanTunnel) (told : List ToldTrade) (second : ℕ) (range : Range) → Remembered t told → range ≡ between (t .tick .value) (t .«half_width») (centre-in (t .summary) (period second)) → ByTheRule t told second range
+ruled t told second range r e =
     let k = period second in
-    let range = between (t .tick .value) (t .«half_width») (centre-in (t .summary) k) in
-    let asked = chosen (askable base second) range no-price h in
-    let here = ends-between (t .tick .value) (t .«half_width») (centre-in (t .summary) k) (auctioning t base second) (t .tick .within .0) (some-centre (t .summary) k (t .central)) asked in
-    let P : Fraction → Type 0 = λ c. Between (t .tick .value) (t .«half_width») c (auctioning t base second) in
+    let here = ends-between (t .tick .value) (t .«half_width») (centre-in (t .summary) k) range (t .tick .within .0) (some-centre (t .summary) k (t .central)) e in
+    let P : Fraction → Type 0 = λ c. Between (t .tick .value) (t .«half_width») c range in
     subst P (centre-kept (t .settlement) (t .summary) told k r) here
 
 -- by the parameters of a tunnel that is alike
@@ -52,4 +50,5 @@ range-by-what-counted t begun u told (alike, none) all base second h =
     (λ v x w xs tells other p. let kept = tells .2 other in (ap (λ s. s .tally) kept, (alike-trans t v w (p .0) (tells .0), still v w xs (tells .0) kept (p .1))))
     0 told [] begun u (none .tally) (alike, none) all in
     let counted = newest-first (counting 0 told) [] in
-    ruled-alike t u counted second (auctioning u base second) same (ruled u counted base second r h)
+    let asked = chosen (askable base second) (between (u .tick .value) (u .«half_width») (centre-in (u .summary) (period second))) no-price h in
+    ruled-alike t u counted second (auctioning u base second) same (ruled u counted second (auctioning u base second) r asked)

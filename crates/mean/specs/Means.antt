@@ -74,6 +74,7 @@ between tick w (value, quantity) = (
   up tick (pos (value / quantity + min 1 (value % quantity)) +ℤ pos w) -ℤ pos 1,
 )
 
+-- a half-width, and a price, within their limits
 abbrev pub IsWidth : ℕ → Type 0
 IsWidth w = (1 ≤ w) × (w ≤ greatest-band)
 

@@ -11,6 +11,7 @@ use Rattle.mean.specs.Means.{Fraction, latest, value-before, quantity-before, 
 use Rattle.mean.specs.declared.summary.Average.{Average}
 use Rattle.mean.specs.declared.summary.Summary.{Summary}
 
+-- the average as the fraction that it is
 abbrev pub fraction : Average → Fraction
 fraction a = (a .value, a .quantity)
 
@@ -31,7 +32,7 @@ abbrev pub centre-in : Summary → ℕ → Fraction
 centre-in s k =
     cond (leb k (s .period)) (fraction (s .centre)) (cond (eqb k (s .period + 1) && not (eqb (s .current .quantity) 0)) (fraction (s .current)) (s .last, 1))
 
--- no price of the average is above the greatest
+-- an average of prices and of a quantity within their limits
 abbrev pub Priced : Average → Type 0
 Priced a = (a .value ≤ greatest-price * a .quantity) × (a .quantity ≤ greatest-tally)
 

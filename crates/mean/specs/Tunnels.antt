@@ -17,7 +17,7 @@ Remembered t told = Remembers (t .settlement) (t .summary) told
 abbrev pub ByTheRule : MeanTunnel → List ToldTrade → ℕ → Range → Type 0
 ByTheRule t told second range = Between (t .tick .value) (t .«half_width») (centre-at (t .settlement) told second) range
 
--- the range for auctions
+-- the range for auctions, by what the tunnel keeps
 abbrev pub auctioning : MeanTunnel → ℕ → ℕ → Range
 auctioning t base second = asked base second (between (t .tick .value) (t .«half_width») (centre-in (t .summary) (period second)))
 

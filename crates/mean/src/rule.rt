@@ -28,7 +28,7 @@ impl MeanTunnel {
     // Forgets the trades.
     fn restart(&mut self)
         ensures started { λ _. ⌜ Starts (now (self .entry)) (now (self .exit)) ⌝ }
-        ensures every { λ _. ⌜ RangeByWhatCounted ⌝ }
+        ensures range_by_what_counted { λ _. ⌜ RangeByWhatCounted ⌝ }
     {
         self.summary = Summary::start(self.settlement);
     }
@@ -72,7 +72,7 @@ pub impl Tunnel for MeanTunnel as ByMean {
 
     fn start_day(&mut self)
         ensures started { λ _. ⌜ Starts (now (self .entry)) (now (self .exit)) ⌝ }
-        ensures every { λ _. ⌜ RangeByWhatCounted ⌝ }
+        ensures range_by_what_counted { λ _. ⌜ RangeByWhatCounted ⌝ }
     {
         self.restart();
     }

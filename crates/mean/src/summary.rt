@@ -6,7 +6,7 @@ ghost use lib.IntN.{pos};
 ghost use lib.Signed.{_≤ℤ_};
 ghost use Rattle.tunnel.specs.Trades.{Counts};
 ghost use Rattle.tunnel.specs.declared.trade.ToldTrade.{ToldTrade};
-ghost use Rattle.mean.specs.Means.{between, Between};
+ghost use Rattle.mean.specs.Means.{between};
 ghost use Rattle.mean.specs.Summaries.{fraction, Priced, Sound, Remembers, RemembersSome, centre-in};
 ghost use Rattle.rules.specs.Limits.{greatest-price, greatest-band, greatest-tally};
 use rules::Tick;
@@ -21,6 +21,12 @@ pub struct Average {
     pub(crate) value: u64,
     pub(crate) quantity: u64,
 }
+
+// Nothing was told, which is no price.
+const NOTHING: Average = Average {
+    value: 0,
+    quantity: 0,
+};
 
 // The trades that were told since the day's start, in short.
 #[derive(Clone, Copy)]
@@ -89,8 +95,7 @@ impl Average {
         requires priced { ⌜ Priced self ⌝ }
         requires some { ⌜ 1 ≤ self .quantity ⌝ }
         requires width { ⌜ «half_width» ≤ greatest-band ⌝ }
-        ensures range { λ r. ⌜ r ≡ between (tick .value) «half_width» (fraction self) ⌝ }
-        ensures limits { λ r. ⌜ Between (tick .value) «half_width» (fraction self) r ⌝ }
+        ensures { λ r. ⌜ r ≡ between (tick .value) «half_width» (fraction self) ⌝ }
     {
         let half_width = half_width as i32;
         let low = tick.down(self.floor() - half_width);
@@ -110,10 +115,7 @@ impl Summary {
         Summary {
             tally: 0,
             period: 0,
-            current: Average {
-                value: 0,
-                quantity: 0,
-            },
+            current: NOTHING,
             centre: Average::of(settlement),
             last: settlement,
         }
@@ -143,10 +145,7 @@ impl Summary {
         if period <= self.period {
             self.current
         } else {
-            Average {
-                value: 0,
-                quantity: 0,
-            }
+            NOTHING
         }
     }
 

@@ -6,6 +6,7 @@ use lib.Signed.{_≤ℤ_, _<ℤ_}
 use Rattle.std.specs.Numbers.{remEuclid}
 use Rattle.rules.specs.Limits.{greatest-tick}
 
+-- a tick within its limits
 abbrev pub IsTick : ℕ → Type 0
 IsTick tick = (1 ≤ tick) × (tick ≤ greatest-tick)
 

@@ -3,8 +3,8 @@ use lib.IntN.{pos, _+ℤ_}
 use Rattle.std.proofs.shelf.Signed.{ints}
 use Rattle.rules.specs.Ticks.{down, up}
 use Rattle.band.specs.Bands.{around}
-use Rattle.tunnel.proofs.Ends.{both-ends, answered}
-use Rattle.band.proofs.Ends.{summed, around-rounded}
+use Rattle.tunnel.proofs.Ends.{both-ends}
+use Rattle.band.proofs.Ends.{answered, summed, around-rounded}
 use Rattle.band.proofs.band.Band.around.Needs as need
 
 pub returns : need.returns
