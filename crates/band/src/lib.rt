@@ -1,4 +1,5 @@
 // The band tunnel: each range lies around the base price, from a low to a high band.
+#![tactic(auto)]
 
 pub mod band;
 pub mod tunnel;

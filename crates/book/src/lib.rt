@@ -1,4 +1,5 @@
 // The two sides of the book: orders that rest, in rank order.
+#![tactic(auto)]
 
 pub mod buy;
 mod fills;

@@ -1,4 +1,5 @@
 // Daily limits, as a layer over any tunnel.
+#![tactic(auto)]
 
 pub mod layer;
 pub mod limits;

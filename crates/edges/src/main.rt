@@ -1,4 +1,6 @@
 // Lists each tape of the bundle on standard input: a row of tapes, each behind its length in four bytes.
+#![tactic(auto)]
+
 use anyhow::anyhow;
 use std::io::{Read, Write};
 use tape::listing::listing;

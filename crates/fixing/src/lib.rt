@@ -1,4 +1,5 @@
 // The theoretical result of an auction, and its fixing.
+#![tactic(auto)]
 
 mod offer;
 pub mod theoretical;

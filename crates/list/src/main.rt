@@ -1,4 +1,6 @@
 // Lists the session tape on standard input: a line for each record, and at a fault a last line that tells it.
+#![tactic(auto)]
+
 use rules::MOST_TAPE_BYTES;
 use std::alloc::Global;
 use std::io;

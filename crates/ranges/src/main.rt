@@ -1,6 +1,8 @@
 // Answers a script of tunnels and questions. The script has blocks of lines, with an empty line between two blocks.
 // The first line of a block makes a tunnel; `limits` lines lay daily limits over it, two at most; the other lines
 // start days, tell trades and ask.
+#![tactic(auto)]
+
 use anyhow::anyhow;
 use band::{Band, BandTunnel};
 use daily::DailyLimits;

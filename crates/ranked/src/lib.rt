@@ -1,4 +1,5 @@
 // Records in rank order at the front of a lent slice.
+#![tactic(auto)]
 
 pub mod ranking;
 pub mod slice;

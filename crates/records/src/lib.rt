@@ -1,4 +1,6 @@
 // The records of a session tape, with fields as wide as the tape has them.
+#![tactic(auto)]
+
 ghost use Rattle.std.specs.Prelude.{◌≡◌, ◌≤◌, length, take, MatchOption, ◌≢◌};
 ghost use Rattle.records.specs.Records.{body, fields_of, kind_of, letter_of, length_of, most_fields, RecordFits};
 

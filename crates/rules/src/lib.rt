@@ -1,4 +1,5 @@
 // What every layer shares: the limits, the one list of refusals, and the tick.
+#![tactic(auto)]
 
 pub mod limits;
 pub mod refusal;

@@ -1,4 +1,5 @@
 // The session tape: a reader and a writer of its records, and the lines of text that tell what is on it.
+#![tactic(auto)]
 
 mod buffer;
 mod draft;

@@ -1,4 +1,5 @@
 // What a tunnel means to a market, and what every kind of tunnel needs.
+#![tactic(auto)]
 
 pub mod limits;
 pub mod meaning;

@@ -5,7 +5,7 @@ use Rattle.rules.proofs.tick.Tick.multiple_below.Goals as goal
 
 pub returns : goal.returns
 returns c =
-    let rest = c.rem-euclid.ensures.value in
+    let rest = c.rem_euclid.ensures.value in
     record {
       value = search (arith, ints, to_z-of_z, rest);
       rounded = down_rounded c.args.self.value c.args.number _ c.args.self.within.0 (search (arith, ints, to_z-of_z, rest));
