@@ -3,7 +3,7 @@ use Rattle.std.specs.Prelude.{ℕ}
 use Rattle.tunnel.specs.Ranges.{Range, Askable, asked}
 use Rattle.band.specs.Bands.{around, Around}
 use Rattle.band.specs.declared.band.Band.{Band}
-use Rattle.band.specs.declared.tunnel.BandTunnel.{BandTunnel}
+use Rattle.band.specs.declared.band_tunnel.BandTunnel.{BandTunnel}
 
 -- the range that a band gives
 abbrev pub ranging : BandTunnel → Band → ℕ → ℕ → Range

@@ -2,7 +2,7 @@
 #![tactic(auto)]
 
 pub mod band;
-pub mod tunnel;
+pub mod band_tunnel;
 
 pub use band::Band;
-pub use tunnel::BandTunnel;
+pub use band_tunnel::BandTunnel;

@@ -9,7 +9,7 @@ use Rattle.mean.specs.Means.{Fraction, period, centre_at, between, Between}
 use Rattle.mean.specs.Summaries.{Remembers, Central, centre_in}
 use Rattle.mean.specs.Tunnels.{Remembered, ByTheRule, auctioning, Alike, Tells, RangeByWhatCounted}
 use Rattle.mean.specs.declared.summary.Summary.{Summary}
-use Rattle.mean.specs.declared.tunnel.MeanTunnel.{MeanTunnel}
+use Rattle.mean.specs.declared.mean_tunnel.MeanTunnel.{MeanTunnel}
 use Rattle.mean.proofs.Between.{ends_between}
 use Rattle.mean.proofs.Centres.{centre_kept}
 

@@ -5,7 +5,7 @@ use Rattle.tunnel.specs.Trades.{Counts, Told, counting, newest_first}
 use Rattle.tunnel.specs.declared.trade.ToldTrade.{ToldTrade}
 use Rattle.mean.specs.Means.{period, centre_at, between, Between}
 use Rattle.mean.specs.Summaries.{Remembers, centre_in}
-use Rattle.mean.specs.declared.tunnel.MeanTunnel.{MeanTunnel}
+use Rattle.mean.specs.declared.mean_tunnel.MeanTunnel.{MeanTunnel}
 
 -- what the tunnel keeps is the summary of these trades, the one last told first
 abbrev pub Remembered : MeanTunnel → List ToldTrade → Type 0

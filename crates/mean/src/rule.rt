@@ -7,8 +7,8 @@ ghost use Rattle.mean.specs.Summaries.{RemembersSome, centre_in};
 ghost use Rattle.mean.specs.Tunnels.{ByTheRule, RangeByWhatCounted, Remembered, Starts, Tells, auctioning};
 ghost use Rattle.std.proofs.Common.{rules, arith};
 
+use crate::mean_tunnel::MeanTunnel;
 use crate::summary::{PERIOD, Summary};
-use crate::tunnel::MeanTunnel;
 use tunnel::{NO_PRICE, ToldTrade, Tunnel, askable, every_price};
 
 impl MeanTunnel {

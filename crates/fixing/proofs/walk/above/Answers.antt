@@ -6,8 +6,8 @@ use Rattle.fixing.proofs.walk.above.Goals as goal
 pub loop-orders-init : goal.loop-orders-init
 loop-orders-init c = above_start c.args.buys.now c.args.price c.args.front c.requires.front
 
-pub overflow-sub-quantity : goal.overflow-sub-quantity
-overflow-sub-quantity c =
+pub overflow_sub-quantity : goal.overflow_sub-quantity
+overflow_sub-quantity c =
     (above_less c.args.buys.now c.args.price c.loop-orders.orders c.loop-orders.quantity no_order c.loop-orders.invariant c.loop-orders-test.true c.if-buys-orders.true).0
 
 pub loop-orders-preserved : goal.loop-orders-preserved

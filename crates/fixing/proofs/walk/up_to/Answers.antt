@@ -8,8 +8,8 @@ loop-orders-init c =
     let (below, le, of) = c.requires.front in
     up_start c.args.sells.now c.args.price below c.args.front le of
 
-pub overflow-add-quantity : goal.overflow-add-quantity
-overflow-add-quantity c =
+pub overflow_add-quantity : goal.overflow_add-quantity
+overflow_add-quantity c =
     let lt = c.loop-orders-test.true in
     omega (arith, c.loop-orders.invariant.1, c.requires.fits, resting_more c.args.sells.now c.loop-orders.orders no_order lt, resting_front c.args.sells.now (c.loop-orders.orders + 1))
 

@@ -4,5 +4,5 @@ use Rattle.records.proofs.Fields.of.Goals as goal
 
 pub returns : goal.returns
 returns c =
-    let same = c.copy-from-slice.ensures.after in
-    record { count = refl; items = take_at c.copy-from-slice.new.self _ (length c.args.fields.now) (ap length same) ∙ same }
+    let same = c.copy_from_slice.ensures.after in
+    record { count = refl; items = take_at c.copy_from_slice.new.self _ (length c.args.fields.now) (ap length same) ∙ same }

@@ -5,11 +5,11 @@ use Rattle.tape.proofs.fields.bands.Goals as goal
 
 pub returns : goal.returns
 returns c =
-    let none : c.band-auction-high.result.1.now ≡ [] = nil_from_length c.band-auction-high.result.1.now (omega (arith, ap length c.band-buy-low.ensures, ap length c.band-buy-high.ensures, ap length c.band-sell-low.ensures, ap length c.band-sell-high.ensures, ap length c.band-auction-low.ensures, ap length c.band-auction-high.ensures)) in
-    band_behind c.band-buy-low.result.0 (search rules) c.band-buy-low.ensures
-    (band_behind c.band-buy-high.result.0 (search rules) c.band-buy-high.ensures
-    (band_behind c.band-sell-low.result.0 (search rules) c.band-sell-low.ensures
-    (band_behind c.band-sell-high.result.0 (search rules) c.band-sell-high.ensures
-    (band_behind c.band-auction-low.result.0 (search rules) c.band-auction-low.ensures
-    (band_behind c.band-auction-high.result.0 (search rules) c.band-auction-high.ensures
+    let none : c.band-auction_high.result.1.now ≡ [] = nil_from_length c.band-auction_high.result.1.now (omega (arith, ap length c.band-buy_low.ensures, ap length c.band-buy_high.ensures, ap length c.band-sell_low.ensures, ap length c.band-sell_high.ensures, ap length c.band-auction_low.ensures, ap length c.band-auction_high.ensures)) in
+    band_behind c.band-buy_low.result.0 (search rules) c.band-buy_low.ensures
+    (band_behind c.band-buy_high.result.0 (search rules) c.band-buy_high.ensures
+    (band_behind c.band-sell_low.result.0 (search rules) c.band-sell_low.ensures
+    (band_behind c.band-sell_high.result.0 (search rules) c.band-sell_high.ensures
+    (band_behind c.band-auction_low.result.0 (search rules) c.band-auction_low.ensures
+    (band_behind c.band-auction_high.result.0 (search rules) c.band-auction_high.ensures
     none)))))

@@ -5,4 +5,4 @@ use Rattle.tape.proofs.fields.two.Goals as goal
 pub returns : goal.returns
 returns c =
     let bs = c.args.bytes.now in
-    front 2 bs c.from-be-bytes.result (λ i. search rules) c.requires (c.from-be-bytes.ensures ∙ sym (number_two bs c.requires))
+    front 2 bs c.from_be_bytes.result (λ i. search rules) c.requires (c.from_be_bytes.ensures ∙ sym (number_two bs c.requires))

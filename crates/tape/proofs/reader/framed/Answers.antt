@@ -8,7 +8,7 @@ pub returns : goal.returns
 returns c =
     let rest = c.args.rest.now in
     let two : 2 ≤ length rest = search rules in
-    let is : c.from-length.result ≡ stated rest = c.from-length.ensures ∙ c.from-be-bytes.ensures ∙ sym (number_two rest two) in
+    let is : c.from-length.result ≡ stated rest = c.from-length.ensures ∙ c.from_be_bytes.ensures ∙ sym (number_two rest two) in
     let behind = take_rest rest 2 in
     let fits = c.if-body-length.false in
     (λ cut. omega (arith, ap length behind, length-drop 2 rest), search rules)

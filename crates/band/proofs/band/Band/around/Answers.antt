@@ -11,8 +11,8 @@ returns c =
     let tick = c.args.tick.value in
     let band = c.args.self in
     let base = c.args.base in
-    let low = answered (down tick) (pos base +ℤ band.low) _ c.down.result c.down.type-inv c.down.ensures.value (summed base band.low c.requires band.within.0 (omega (arith, ints, band.within.1))) in
-    let high = answered (up tick) (pos base +ℤ band.high) _ c.up.result c.up.type-inv c.up.ensures.value (summed base band.high c.requires (omega (arith, ints, band.within.2)) band.within.3) in
+    let low = answered (down tick) (pos base +ℤ band.low) _ c.down.result c.down.type_inv c.down.ensures.value (summed base band.low c.requires band.within.0 (omega (arith, ints, band.within.1))) in
+    let high = answered (up tick) (pos base +ℤ band.high) _ c.up.result c.up.type_inv c.up.ensures.value (summed base band.high c.requires (omega (arith, ints, band.within.2)) band.within.3) in
     let range = both_ends _ _ (around tick band.low band.high base) low high in
     record {
       range = range;

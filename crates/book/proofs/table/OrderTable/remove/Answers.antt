@@ -7,7 +7,7 @@ use Rattle.book.proofs.table.OrderTable.remove.Goals as goal
 pub returns : goal.returns
 returns c =
     let t = c.args.self.now in
-    let done = c.in-ok-order.ensures in
+    let done = c.in_ok-order.ensures in
     let n = length-take-le t.count t.orders done.within.1 in
     let low : c.args.place < length (held t) = omega (arith, done.within.0) in
     record {

@@ -3,8 +3,8 @@ use Rattle.std.proofs.lemmas.Int.{ints}
 use Rattle.mean.proofs.Between.{floor_within}
 use Rattle.mean.proofs.summary.Average.floor.Goals as goal
 
-pub overflow-cast-result : goal.overflow-cast-result
-overflow-cast-result c =
+pub overflow_cast-result : goal.overflow_cast-result
+overflow_cast-result c =
     let most = floor_within c.args.self.value c.args.self.quantity c.requires.some c.requires.priced.0 in
     omega (arith, ints)
 

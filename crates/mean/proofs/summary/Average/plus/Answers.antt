@@ -1,8 +1,8 @@
 use Rattle.std.proofs.Common.{mul-le-mul_right, arith}
 use Rattle.mean.proofs.summary.Average.plus.Goals as goal
 
-pub overflow-add-result : goal.overflow-add-result
-overflow-add-result c =
+pub overflow_add-result : goal.overflow_add-result
+overflow_add-result c =
     let paid = mul-le-mul_right c.args.trade.quantity c.requires.price in
     omega arith
 

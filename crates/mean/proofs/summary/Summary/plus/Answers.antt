@@ -18,7 +18,7 @@ after c = record {
 
 kept : (c : goal.After-centre) (settlement : ℕ) (told : List ToldTrade) → Remembers settlement c.args.self told → Remembers settlement (after c) (c.args.trade ∷ told)
 kept c settlement told r =
-    grown_by settlement c.args.self (after c) c.args.trade told (fraction c.told-in.result) r refl c.centre.ensures.centre refl c.max.ensures c.told-in.ensures.latest c.told-in.ensures.later c.plus.ensures.value c.plus.ensures.quantity
+    grown_by settlement c.args.self (after c) c.args.trade told (fraction c.told_in.result) r refl c.centre.ensures.centre refl c.max.ensures c.told_in.ensures.latest c.told_in.ensures.later c.plus.ensures.value c.plus.ensures.quantity
 
 pub returns : goal.returns
 returns c = record {

@@ -8,7 +8,7 @@ pub loop-field-preserved : goal.loop-field-preserved
 loop-field-preserved c = (
   omega arith,
   joined_next (λ f. blank (shown f)) (drafted c.args.self.now) c.args.fields.now c.loop-field.field-index _ c.loop-field-test.true c.loop-field.invariant.1
-      (twice (drafted c.loop-field.self) (32 ∷ []) _ c.byte.ensures.text c.shown-field.ensures.text),
+      (twice (drafted c.loop-field.self) (32 ∷ []) _ c.byte.ensures.text c.shown_field.ensures.text),
 )
 
 pub returns : goal.returns

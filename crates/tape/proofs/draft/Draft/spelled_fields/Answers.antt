@@ -7,7 +7,7 @@ use Rattle.tape.proofs.draft.Draft.spelled_fields.Goals as goal
 pub loop-field-preserved : goal.loop-field-preserved
 loop-field-preserved c = (
   omega arith,
-  joined_next spelled (drafted c.args.self.now) c.args.fields.now c.loop-field.field-index _ c.loop-field-test.true c.loop-field.invariant.1 c.spelled-field.ensures.text,
+  joined_next spelled (drafted c.args.self.now) c.args.fields.now c.loop-field.field-index _ c.loop-field-test.true c.loop-field.invariant.1 c.spelled_field.ensures.text,
 )
 
 pub returns : goal.returns

@@ -1,7 +1,7 @@
 use Rattle.std.proofs.Common.{ap, ◌∙◌}
 use Rattle.mean.specs.Means.{between}
 use Rattle.mean.proofs.Days.{ruled}
-use Rattle.mean.proofs.tunnel.MeanTunnel.around_mean.Goals as goal
+use Rattle.mean.proofs.mean_tunnel.MeanTunnel.around_mean.Goals as goal
 
 pub returns : goal.returns
 returns c =
