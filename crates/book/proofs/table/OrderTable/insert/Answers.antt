@@ -12,7 +12,7 @@ returns g c =
     let done = c.in_ok-place.ensures in
     let long : length t.orders ≡ most_orders = search rules in
     let n = length-take-le t.count t.orders (omega arith) in
-    let ok : Acceptable (held t) c.args.order = record { within = subst T c.if-not-within-limits.ensures tt; room = omega (arith, done.room); apart = c.if-not-is-apart.ensures.0 refl } in
+    let ok : Acceptable (held t) c.args.order = record { within = subst T c.if-not-within_limits.ensures tt; room = omega (arith, done.room); apart = c.if-not-is_apart.ensures.0 refl } in
     record {
       answer = (ok, done.placed, done.front);
       few = omega (arith, done.room);
