@@ -5,8 +5,8 @@ use Rattle.fixing.specs.Volumes.{TradesTheMost}
 use Rattle.fixing.proofs.Theory.{over_same}
 use Rattle.fixing.proofs.theoretical.theoretical_result.Goals as goal
 
-pub result-over-requires : goal.result-over-requires
-result-over-requires c =
+pub result_over-requires : goal.result_over-requires
+result_over-requires c =
     let b = c.args.buys.now in
     let s = c.args.sells.now in
     record {
@@ -16,8 +16,8 @@ result-over-requires c =
 
 pub returns : goal.returns
 returns c =
-    let done = c.result-over.ensures in
-    let r = c.result-over.result in
+    let done = c.result_over.ensures in
+    let r = c.result_over.result in
     record {
       result = over_same (λ b s. IsTheoretical b s c.args.base r) c.orders.ensures c.orders-2.ensures done.result;
       only = over_same (λ b s. OnlyTheoretical b s c.args.base r) c.orders.ensures c.orders-2.ensures done.only;

@@ -13,8 +13,8 @@ pub loop-price-init : goal.loop-price-init
 loop-price-init c =
     (0, walk_starts c.args.buys.now c.args.sells.now c.args.base c.whole-left.result c.requires.buys c.requires.sells c.whole-left.ensures.0 c.whole-left.ensures.1)
 
-pub up-to-done-requires : goal.up-to-done-requires
-up-to-done-requires c =
+pub up_to-done-requires : goal.up_to-done-requires
+up_to-done-requires c =
     let (price, walked) = c.loop-price.invariant in
     let up = goes_up c.args.buys.now c.args.sells.now c.args.base price c.in-Some.price c.loop-price.left c.loop-price.done walked.buyers walked.sellers c.in-Some.ensures in
     record { fits = omega (arith, resting_bound sells_before c.args.sells.now c.requires.sells); ranked = c.requires.sells.ranked; front = (price, omega arith, walked.sellers) }
@@ -27,7 +27,7 @@ above-left-requires c =
 pub loop-price-smaller : goal.loop-price-smaller
 loop-price-smaller c =
     let (price, walked) = c.loop-price.invariant in
-    fewer_left c.args.buys.now c.args.sells.now c.args.base price c.in-Some.price c.loop-price.left c.loop-price.done walked.buyers walked.sellers c.in-Some.ensures c.above-left.result c.up-to-done.result c.above-left.ensures c.up-to-done.ensures
+    fewer_left c.args.buys.now c.args.sells.now c.args.base price c.in-Some.price c.loop-price.left c.loop-price.done walked.buyers walked.sellers c.in-Some.ensures c.above-left.result c.up_to-done.result c.above-left.ensures c.up_to-done.ensures
 
 pub loop-price-preserved : goal.loop-price-preserved
 loop-price-preserved c =
@@ -39,12 +39,12 @@ loop-price-preserved c =
     let (price, walked) = c.loop-price.invariant in
     let lowest = c.in-Some.ensures in
     let there = buyers_at_next buys sells c.args.base price next left done walked.buyers walked.sellers lowest in
-    let offer : Offer = record { price = next; demand = left.quantity; supply = c.up-to-done.result.quantity } in
-    let of : IsOffer buys sells offer = record { candidate = candidate_next buys sells c.args.base price next left done walked.buyers walked.sellers lowest; demand = there.quantity; supply = c.up-to-done.ensures.quantity } in (
+    let offer : Offer = record { price = next; demand = left.quantity; supply = c.up_to-done.result.quantity } in
+    let of : IsOffer buys sells offer = record { candidate = candidate_next buys sells c.args.base price next left done walked.buyers walked.sellers lowest; demand = there.quantity; supply = c.up_to-done.ensures.quantity } in (
       next,
       record {
         buyers = c.above-left.ensures;
-        sellers = c.up-to-done.ensures;
+        sellers = c.up_to-done.ensures;
         found = best_of_next buys sells c.args.base price next left done walked.buyers walked.sellers lowest offer of refl c.loop-price.best c.better.result walked.found c.better.ensures;
       },
     )
@@ -52,5 +52,5 @@ loop-price-preserved c =
 pub returns : goal.returns
 returns c =
     let (price, walked) = c.loop-price.invariant in
-    let none = c.in-default.ensures in
+    let none = c.in_default.ensures in
     walked_all c.args.buys.now c.args.sells.now c.args.base price c.loop-price.left c.loop-price.done walked.buyers walked.sellers none.0 none.1 c.loop-price.best walked.found

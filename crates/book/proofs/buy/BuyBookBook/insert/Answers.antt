@@ -2,9 +2,9 @@ use Rattle.book.specs.Orders.{buys_before}
 use Rattle.book.specs.Sides.{sound_table, stamp_of_rank}
 use Rattle.book.proofs.buy.BuyBookBook.insert.Goals as goal
 
-pub invariant-of-self : goal.invariant-of-self
-invariant-of-self c =
+pub invariant_of-self : goal.invariant_of-self
+invariant_of-self c =
     let b = c.args.self.now in
     let was = sound_table buys_before b.table b.few b.ranked b.apart b.within in
     let sound = c.insert.ensures.sound stamp_of_rank was in
-    (c.insert.ensures.few, (sound.ranked, (sound.apart, (sound.within, tt))))
+    record { few = c.insert.ensures.few; ranked = sound.ranked; apart = sound.apart; within = sound.within }

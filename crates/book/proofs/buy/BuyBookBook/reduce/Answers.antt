@@ -2,9 +2,9 @@ use Rattle.book.specs.Orders.{buys_before}
 use Rattle.book.specs.Sides.{buys_keep_rank, sound_table}
 use Rattle.book.proofs.buy.BuyBookBook.reduce.Goals as goal
 
-pub invariant-of-self : goal.invariant-of-self
-invariant-of-self c =
+pub invariant_of-self : goal.invariant_of-self
+invariant_of-self c =
     let b = c.args.self.now in
     let was = sound_table buys_before b.table b.few b.ranked b.apart b.within in
     let sound = c.reduce.ensures.sound buys_before buys_keep_rank was in
-    (c.reduce.ensures.few, (sound.ranked, (sound.apart, (sound.within, tt))))
+    record { few = c.reduce.ensures.few; ranked = sound.ranked; apart = sound.apart; within = sound.within }

@@ -2,9 +2,9 @@ use Rattle.book.specs.Orders.{sells_before}
 use Rattle.book.specs.Sides.{sound_table}
 use Rattle.book.proofs.sell.SellBookBook.remove.Goals as goal
 
-pub invariant-of-self : goal.invariant-of-self
-invariant-of-self c =
+pub invariant_of-self : goal.invariant_of-self
+invariant_of-self c =
     let b = c.args.self.now in
     let was = sound_table sells_before b.table b.few b.ranked b.apart b.within in
     let sound = c.remove.ensures.sound sells_before was in
-    (c.remove.ensures.few, (sound.ranked, (sound.apart, (sound.within, tt))))
+    record { few = c.remove.ensures.few; ranked = sound.ranked; apart = sound.apart; within = sound.within }
