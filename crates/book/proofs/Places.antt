@@ -1,5 +1,5 @@
 -- The front of a table, and what stands at a place of it.
-use Rattle.std.proofs.Common.{◌≡◌, ℕ, ◌<◌, ◌≤◌, List, length, get_or, take, set, Some, None, Option, sym, refl, ◌∙◌, arith, rules, MatchOption}
+use Rattle.std.proofs.Common.{◌≡◌, ℕ, ◌<◌, ◌≤◌, List, length, get_or, take, set, Some, None, Option, sym, ◌∙◌, arith, rules, MatchOption}
 use Rattle.std.proofs.lemmas.List.{same_lists, places, get_or-set_same, get_or-take, get_or_default, length-take-le}
 use Rattle.std.proofs.lemmas.Bool.{cases_eq}
 use Rattle.book.specs.declared.order.Order.{Order}

@@ -1,6 +1,6 @@
 -- What a side of the book holds, as a list of orders in rank order, and what calls make of it. Assumes nothing.
-use Rattle.std.specs.Prelude.{◌≡◌, ℕ, ◌+◌, ◌-◌, ◌<◌, ◌≤◌, min, Bool, cond, List, [], ◌∷◌, length, get_or, Some, None, sum_by, sum, Option, ◌≢◌, nat_lt, slice_index, slice_index_or, slice_set}
-use Rattle.std.specs.List.{AllWithin, insert, remove}
+use Rattle.std.specs.Prelude.{◌≡◌, ℕ, ◌-◌, ◌<◌, ◌≤◌, min, Bool, cond, List, [], ◌∷◌, length, get_or, Some, None, sum_by, sum, Option, ◌≢◌, nat_lt, slice_index, slice_index_or, slice_set}
+use Rattle.std.specs.List.{AllWithin, remove}
 use Rattle.rules.specs.Limits.{most_orders}
 use Rattle.ranked.specs.Ranks.{Pairwise, Ranked}
 use Rattle.book.specs.declared.order.Order.{Order}

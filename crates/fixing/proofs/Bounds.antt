@@ -1,17 +1,17 @@
 -- What the limits of orders mean for sums and prices.
-use Rattle.std.proofs.Common.{◌≡◌, ℕ, ◌+◌, ◌*◌, ◌<◌, ◌≤◌, Bool, true, false, ◌⊎◌, List, length, get_or, take, None, sym, refl, ap, ◌∙◌, inl, inr, zero-le, mul-le-mul_right, arith}
+use Rattle.std.proofs.Common.{◌≡◌, ℕ, ◌<◌, ◌≤◌, Bool, List, length, get_or, None, sym, refl, ap, ◌∙◌, inl, inr, zero-le, arith}
 use Rattle.std.proofs.ByRecursion.{all_from_every, All-weaker, sum_by_le}
 use Rattle.std.proofs.lemmas.List.{take_all}
 use Rattle.std.proofs.lemmas.Bool.{le-leb, lt-leb}
 use Rattle.std.proofs.lemmas.Bool.Decides.{nat_tests}
-use Rattle.rules.specs.Limits.{greatest_price, greatest_quantity, most_orders}
+use Rattle.rules.specs.Limits.{greatest_price, greatest_quantity}
 use Rattle.book.specs.declared.order.Order.{Order}
 use Rattle.book.specs.Lists.{Sound, resting}
 use Rattle.book.specs.Orders.{WithinLimits, buys_before, no_order, sells_before}
 use Rattle.fixing.specs.declared.walk.Front.{Front}
 use Rattle.fixing.specs.Prices.{Candidate}
 use Rattle.fixing.specs.Volumes.{buy_counts, sell_counts}
-use Rattle.fixing.specs.Walks.{Counts, WalkedTo}
+use Rattle.fixing.specs.Walks.{WalkedTo}
 use Rattle.fixing.proofs.Fronts.{make_front}
 
 within_quantity : (x : Order) → WithinLimits x → x.quantity ≤ greatest_quantity

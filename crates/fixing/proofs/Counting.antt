@@ -1,12 +1,12 @@
 -- The quantity of the orders that count.
-use Rattle.std.proofs.Common.{◌≡◌, ℕ, zero, suc, ◌+◌, ◌-◌, ◌<◌, ◌≤◌, min, Bool, true, false, cond, leb, ◌⊎◌, List, [], ◌∷◌, length, get_or, take, sum, sym, refl, ap, ◌∙◌, inl, inr, ⊎_elim, arith}
+use Rattle.std.proofs.Common.{◌≡◌, ℕ, zero, suc, ◌+◌, ◌<◌, ◌≤◌, Bool, true, false, cond, List, [], ◌∷◌, length, get_or, take, sum, sym, refl, ap, ◌∙◌, inl, ⊎_elim, arith}
 use Rattle.std.proofs.lemmas.List.Sums.{sum_by-cons}
-use Rattle.std.proofs.lemmas.Bool.{cases_Bool, cases_lt, cond-true, cond-false, le-leb, leb-true, leb-false, lt-leb, true≢false}
+use Rattle.std.proofs.lemmas.Bool.{cases_Bool, cases_lt, cond-true, cond-false, le-leb, leb-true, leb-false, lt-leb}
 use Rattle.book.specs.declared.order.Order.{Order}
 use Rattle.book.specs.Lists.{resting}
 use Rattle.book.proofs.Shares.{resting-cons, sum-cons}
 use Rattle.fixing.specs.Prices.{Offered, Candidate}
-use Rattle.fixing.specs.Volumes.{FillsAt, FillsOf, TradesTheMost, buy_counts, counted, demand, sell_counts, supply, volume}
+use Rattle.fixing.specs.Volumes.{FillsOf, TradesTheMost, buy_counts, counted, demand, sell_counts, supply, volume}
 
 module _ (counts : Order → Bool) where
   pub counted_yes : (x : Order) (xs : List Order) → counts x ≡ true → counted counts (x ∷ xs) ≡ x.quantity + counted counts xs

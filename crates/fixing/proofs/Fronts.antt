@@ -1,15 +1,15 @@
 -- Fronts of the two sides: the orders of a ranked side that count stand first.
-use Rattle.std.proofs.Common.{◌≡◌, ℕ, ◌+◌, ◌-◌, ◌<◌, ◌≤◌, Bool, true, false, eqb, ltb, leb, ◌⊎◌, List, length, get_or, take, sym, refl, ap, ◌∙◌, inl, inr, ⊎_elim, arith}
+use Rattle.std.proofs.Common.{◌≡◌, ℕ, ◌+◌, ◌-◌, ◌<◌, ◌≤◌, Bool, true, false, ltb, List, length, get_or, take, sym, ap, ◌∙◌, ⊎_elim, arith}
 use Rattle.std.proofs.lemmas.List.{get_or_default}
 use Rattle.std.proofs.lemmas.List.Sums.{sum_by_more, sum_by-take-le}
-use Rattle.std.proofs.lemmas.Bool.{cases_lt, cases_order, or_cases, and_parts, ltb-true, eqb-true, le-leb, lt-leb, leb-true, leb-false}
+use Rattle.std.proofs.lemmas.Bool.{cases_lt, or_cases, and_parts, ltb-true, eqb-true, le-leb, lt-leb, leb-true, leb-false}
 use Rattle.ranked.specs.Ranks.{Ranked}
 use Rattle.ranked.proofs.Orders.{at_two}
 use Rattle.book.specs.declared.order.Order.{Order}
 use Rattle.book.specs.Lists.{resting}
 use Rattle.book.specs.Orders.{buys_before, sells_before}
 use Rattle.fixing.specs.declared.walk.Front.{Front}
-use Rattle.fixing.specs.Volumes.{buy_counts, sell_counts, counted}
+use Rattle.fixing.specs.Volumes.{buy_counts, sell_counts}
 use Rattle.fixing.specs.Walks.{Counts}
 use Rattle.fixing.proofs.Counting.{counted_front}
 

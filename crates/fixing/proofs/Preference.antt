@@ -1,10 +1,10 @@
 -- One price is better than another: an order of the prices in which no two are level.
-use Rattle.std.proofs.Common.{◌≡◌, ℕ, ◌<◌, ◌≤◌, min, ◌⊎◌, List, sym, refl, ap, ◌∙◌, subst, inl, inr, ⊎_elim, arith}
+use Rattle.std.proofs.Common.{◌≡◌, ℕ, ◌<◌, List, sym, ◌∙◌, inl, inr, ⊎_elim, arith}
 use Rattle.std.proofs.lemmas.Bool.{cases_order}
 use Rattle.book.specs.declared.order.Order.{Order}
 use Rattle.fixing.specs.declared.offer.Offer.{Offer}
 use Rattle.fixing.specs.Prices.{Better, LargerThen}
-use Rattle.fixing.specs.Volumes.{demand, distance, imbalance, supply, volume}
+use Rattle.fixing.specs.Volumes.{distance, imbalance, volume}
 use Rattle.fixing.specs.Walks.{Beats, IsOffer}
 
 larger_trans : (m n k : ℕ) (R S Rest : Type 0) → (R → S → Rest) → LargerThen m n R → LargerThen n k S → LargerThen m k Rest

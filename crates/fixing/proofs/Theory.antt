@@ -1,5 +1,5 @@
 -- The theoretical result is the one that the best offer gives, and it trades the most.
-use Rattle.std.proofs.Common.{◌≡◌, ℕ, ◌<◌, ◌≤◌, min, ◌⊎◌, List, ℤ, pos, ◌-ℤ◌, Some, None, Option, sym, refl, ap, ◌∙◌, subst, inl, inr, ⊎_elim, arith, MatchOption}
+use Rattle.std.proofs.Common.{◌≡◌, ℕ, ◌<◌, ◌≤◌, min, List, ℤ, pos, ◌-ℤ◌, Some, None, Option, sym, refl, ap, ◌∙◌, subst, inl, ⊎_elim, arith}
 use Rattle.std.proofs.lemmas.Bool.{cases_lt}
 use Rattle.book.specs.declared.order.Order.{Order}
 use Rattle.fixing.specs.declared.offer.Offer.{Offer}
@@ -7,7 +7,7 @@ use Rattle.fixing.specs.declared.theoretical.Theoretical.{Theoretical}
 use Rattle.fixing.specs.Prices.{Better, Candidate, FixingPrice, IsTheoretical, OnlyTheoretical}
 use Rattle.fixing.specs.Results.{TakenFrom, no_price}
 use Rattle.fixing.specs.Volumes.{TradesTheMost, demand, leftover, supply, volume}
-use Rattle.fixing.specs.Walks.{BestOf, IsOffer}
+use Rattle.fixing.specs.Walks.{IsOffer}
 use Rattle.fixing.proofs.Counting.{trades_the_most}
 use Rattle.fixing.proofs.Preference.{better_total}
 

@@ -1,7 +1,7 @@
 -- The walk over the prices of both sides: each step goes to the next price, and the best offer stays the best.
-use Rattle.std.proofs.Common.{◌≡◌, ℕ, ◌+◌, ◌-◌, ◌<◌, ◌≤◌, Bool, true, false, leb, ◌⊎◌, List, length, get_or, Some, None, Option, sym, ap, ◌∙◌, subst, inl, inr, ⊎_elim, arith, MatchOption}
+use Rattle.std.proofs.Common.{◌≡◌, ℕ, ◌+◌, ◌-◌, ◌<◌, ◌≤◌, ◌⊎◌, List, length, get_or, Some, None, Option, sym, ap, ◌∙◌, subst, inl, inr, ⊎_elim, arith, MatchOption}
 use Rattle.std.proofs.lemmas.List.{get_or_default}
-use Rattle.std.proofs.lemmas.Bool.{both_ways, cases_lt, le-leb, lt-leb, leb-true, leb-false}
+use Rattle.std.proofs.lemmas.Bool.{cases_lt, le-leb, lt-leb, leb-true, leb-false}
 use Rattle.ranked.specs.Ranks.{Ranked}
 use Rattle.book.specs.declared.order.Order.{Order}
 use Rattle.book.specs.Orders.{buys_before, no_order, sells_before}
@@ -9,7 +9,7 @@ use Rattle.fixing.specs.declared.offer.Offer.{Offer}
 use Rattle.fixing.specs.declared.walk.Front.{Front}
 use Rattle.fixing.specs.Prices.{Better, Candidate}
 use Rattle.fixing.specs.Volumes.{buy_counts, sell_counts}
-use Rattle.fixing.specs.Walks.{Beats, BestOf, BestUpTo, Counts, IsOffer, LowestLeft, WalkedTo}
+use Rattle.fixing.specs.Walks.{Beats, BestOf, BestUpTo, Counts, IsOffer, LowestLeft}
 use Rattle.fixing.proofs.Fronts.{buys_fall, front_quantity, make_front, sells_rise}
 use Rattle.fixing.proofs.Preference.{beats_if_better, better_if_beats, better_self, better_trans}
 

@@ -2,7 +2,7 @@
 use Rattle.std.specs.Prelude.{◌≡◌, ℕ, ◌<◌, ◌⊎◌, List, length, pos, MatchOption, slice_index_or}
 use Rattle.book.specs.declared.order.Order.{Order}
 use Rattle.fixing.specs.declared.theoretical.Theoretical.{Theoretical}
-use Rattle.fixing.specs.Volumes.{volume, imbalance, leftover, distance, TradesTheMost}
+use Rattle.fixing.specs.Volumes.{volume, imbalance, leftover, distance}
 
 -- some order of this side has this price
 abbrev pub Offered : List Order → ℕ → Type 0

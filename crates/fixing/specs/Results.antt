@@ -1,5 +1,5 @@
 -- The theoretical result at the best offer. Assumes nothing.
-use Rattle.std.specs.Prelude.{◌≡◌, ℕ, ◌<◌, ◌≤◌, min, pos, ◌-ℤ◌, Some, None}
+use Rattle.std.specs.Prelude.{◌≡◌, ◌<◌, ◌≤◌, min, pos, ◌-ℤ◌, Some, None}
 use Rattle.fixing.specs.declared.offer.Offer.{Offer}
 use Rattle.fixing.specs.declared.theoretical.Theoretical.{Theoretical}
 

@@ -39,7 +39,7 @@ mod tests {
         let tape = read_tape(rt.alloc(), &input[0..70_000])?;
         assert_eq!(rt; tape.len(), 65_537);
         let text = listing(rt.alloc(), tape.as_slice())?;
-        assert_eq!(rt; text.as_slice(), b"tape 24 at 0\n");
+        assert_eq!(rt; text.as_slice(), b"tape 24 at 0\n".as_slice());
         Ok(())
     }
 

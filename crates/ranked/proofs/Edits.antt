@@ -4,7 +4,7 @@ use lib.Seq.{paste}
 use Rattle.std.specs.List.{insert, remove}
 use Rattle.std.proofs.lemmas.List.{take_at, drop_at, length-take, get_or_default}
 use Rattle.std.proofs.lemmas.List.Edits.{length-insert, length-remove}
-use Rattle.ranked.specs.Ranks.{Ranked, Place, NoneAlike, InsertedByRank, RemovedFrom}
+use Rattle.ranked.specs.Ranks.{Place, InsertedByRank, RemovedFrom}
 use Rattle.ranked.proofs.Orders.{ranked_inserted, pairwise_removed}
 use Rattle.ranked.proofs.Slots.{opened, closed}
 

@@ -1,5 +1,5 @@
 -- A record can be told from the bytes that spell it. Assumes nothing.
-use Rattle.std.proofs.Common.{◌≡◌, ℕ, ◌+◌, ◌^◌, ◌<◌, List, ◌++◌, length, get_or, take, drop, ℤ, sym, refl, ap, ◌∙◌, subst, lit<, w32, SFits, to_z, of_z}
+use Rattle.std.proofs.Common.{◌≡◌, ℕ, ◌^◌, ◌<◌, List, ◌++◌, length, get_or, take, drop, ℤ, sym, refl, ap, ◌∙◌, subst, lit<, w32, SFits, to_z, of_z}
 use mir.Facts.{Fits-of_z}
 use Rattle.std.specs.List.{flat_map}
 use Rattle.std.specs.Int.Digits.{number_from_digits}

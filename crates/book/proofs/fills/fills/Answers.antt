@@ -1,4 +1,4 @@
-use Rattle.std.proofs.Common.{◌≡◌, ◌-◌, ◌<◌, ◌≤◌, ◌++◌, length, take, replicate, ap, ◌∙◌, arith, rules}
+use Rattle.std.proofs.Common.{◌≡◌, ◌-◌, ◌<◌, ◌++◌, length, replicate, ap, ◌∙◌, arith, rules}
 use Rattle.rules.specs.Limits.{most_orders}
 use Rattle.std.proofs.lemmas.List.{take_all}
 use Rattle.book.specs.Lists.{filled}

@@ -1,4 +1,4 @@
-use Rattle.std.proofs.Common.{◌+◌, arith}
+use Rattle.std.proofs.Common.{arith}
 use Rattle.book.specs.Orders.{no_order}
 use Rattle.fixing.proofs.Fronts.{above_start, above_less, above_end}
 use Rattle.fixing.proofs.walk.above.Goals as goal

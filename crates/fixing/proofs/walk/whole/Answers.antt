@@ -1,4 +1,4 @@
-use Rattle.std.proofs.Common.{◌≡◌, ◌+◌, refl, ap, ◌∙◌, arith, Fits}
+use Rattle.std.proofs.Common.{◌+◌, refl, ap, ◌∙◌, arith}
 use Rattle.book.specs.Lists.{resting}
 use Rattle.book.specs.Orders.{no_order}
 use Rattle.std.proofs.lemmas.List.{take_all}

@@ -1,4 +1,4 @@
-use Rattle.std.proofs.Common.{arith, rules}
+use Rattle.std.proofs.Common.{arith}
 use Rattle.ranked.proofs.Edits.{removal}
 use Rattle.ranked.proofs.slice.remove.Goals as goal
 

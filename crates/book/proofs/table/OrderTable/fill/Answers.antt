@@ -1,4 +1,4 @@
-use Rattle.std.proofs.Common.{◌≡◌, ◌-◌, ◌<◌, ◌≤◌, ◌++◌, length, take, replicate, sym, ap, ◌∙◌, arith, rules}
+use Rattle.std.proofs.Common.{◌≡◌, ◌-◌, ◌≤◌, ◌++◌, length, take, replicate, arith, rules}
 use Rattle.rules.specs.Limits.{most_orders}
 use Rattle.std.proofs.lemmas.List.{length-take}
 use Rattle.book.specs.Lists.{filled, remaining}

@@ -1,4 +1,4 @@
-use Rattle.std.proofs.Common.{◌≡◌, ◌<◌, ◌≤◌, T, length, refl, subst, arith, rules}
+use Rattle.std.proofs.Common.{◌≡◌, T, length, refl, subst, arith, rules}
 use Rattle.rules.specs.Limits.{most_orders}
 use Rattle.std.proofs.lemmas.List.{length-take-le}
 use Rattle.book.specs.Lists.{Acceptable}

@@ -1,10 +1,9 @@
-use Rattle.std.proofs.Common.{◌≡◌, ◌-◌, ◌<◌, ◌≤◌, ltb, length, get_or, take, set, sym, refl, ap, ◌∙◌, arith, rules}
+use Rattle.std.proofs.Common.{◌≡◌, ◌<◌, ltb, length, get_or, take, set, sym, refl, ap, ◌∙◌, arith, rules}
 use Rattle.rules.specs.Limits.{most_orders}
 use Rattle.std.proofs.lemmas.List.{length-take}
 use Rattle.std.proofs.lemmas.Bool.{cond-true, cond-false, lt-ltb, le-ltb}
 use Rattle.std.specs.List.{remove}
 use Rattle.book.specs.declared.order.Order.{Order}
-use Rattle.book.specs.Lists.{At, reduced}
 use Rattle.book.specs.Orders.{lessened, no_order}
 use Rattle.book.specs.Tables.{held}
 use Rattle.book.proofs.Places.{at_held, one_there, some_there, take-set_held}
