@@ -5,7 +5,7 @@ ghost use Rattle.tunnel.specs.declared.trade.ToldTrade.{ToldTrade};
 ghost use Rattle.mean.specs.Means.{between, period};
 ghost use Rattle.mean.specs.Summaries.{RemembersSome, centre_in};
 ghost use Rattle.mean.specs.Tunnels.{ByTheRule, RangeByWhatCounted, Remembered, Starts, Tells, auctioning};
-ghost use Rattle.std.proofs.Common.{rules, arith};
+ghost use Rattle.std.proofs.Common.{rules};
 
 use crate::mean_tunnel::MeanTunnel;
 use crate::summary::{PERIOD, Summary};
@@ -43,15 +43,15 @@ impl Tunnel for MeanTunnel {
 
     ghost tells = { Tells };
 
-    ghost no_price_outside_limits = { first_of (Prim.search rules, Prim.grind (arith, Self.row.coded.inj)) };
+    ghost no_price_outside_limits = { Prim.search rules };
 
-    ghost day_starts_at_zero = { first_of (Prim.search rules, Prim.grind (arith, Self.row.coded.inj)) };
+    ghost day_starts_at_zero = { Prim.search rules };
 
-    ghost told_trade_adds_its_quantity = { first_of (Prim.search rules, Prim.grind (arith, Self.row.coded.inj)) };
+    ghost told_trade_adds_its_quantity = { Prim.search rules };
 
-    ghost other_trade_leaves_the_tally = { first_of (Prim.search rules, Prim.grind (arith, Self.row.coded.inj)) };
+    ghost other_trade_leaves_the_tally = { Prim.search rules };
 
-    ghost other_trade_leaves_the_ranges = { first_of (Prim.search rules, Prim.grind (arith, Self.row.coded.inj)) };
+    ghost other_trade_leaves_the_ranges = { Prim.search rules };
 
     fn tally(&self) -> u64 {
         self.summary.tally

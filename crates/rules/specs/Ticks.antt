@@ -18,7 +18,7 @@ RoundedDown tick z r = Multiple tick r × (r ≤ℤ z) × (z <ℤ (r +ℤ pos ti
 abbrev pub RoundedUp : ℕ → ℤ → ℤ → Type 0
 RoundedUp tick z r = Multiple tick r × (z ≤ℤ r) × (r <ℤ (z +ℤ pos tick))
 
--- the same as functions: `remEuclid z n` is what `z` is above a multiple of `n`, from 0 to n - 1
+-- the same as functions: `int_rem_euclid z n` is what `z` is above a multiple of `n`, from 0 to n - 1
 abbrev pub down : ℕ → ℤ → ℤ
 down tick z = z -ℤ int_rem_euclid z (pos tick)
 

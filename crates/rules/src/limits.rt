@@ -1,4 +1,4 @@
-// The limits. Each stands under the same name in specs/Limits.antt, in small letters and with `-` for `_`.
+// The limits. Each stands under the same name in specs/Limits.antt, in small letters.
 
 // Prices run from 1 to this.
 pub const GREATEST_PRICE: u32 = 10_000_000;
