@@ -1,7 +1,7 @@
 -- One order more or less, and orders with less of their quantity, leave a side sound.
 use Rattle.std.specs.Prelude.{◌≡◌, ℕ, suc, ◌<◌, ◌≤◌, Bool, true, ◌≢◌, List, [], ◌∷◌, length, take, drop, nat_lt, slice_index_or, slice_set, refl}
 use Rattle.std.proofs.Common.{sym, ◌∙◌, ⊎_elim, zero-le, arith}
-use Rattle.std.specs.List.{AllWithin, insert, remove, AllByRecursion as All}
+use Rattle.std.specs.List.{AllWithin, insert, remove, AllByRecursion}
 use Rattle.std.proofs.lemmas.List.Edits.{length-insert, length-remove}
 use Rattle.std.proofs.ByRecursion.{All-append, All-take, All-drop, All-set, All-weaker, all_from_every, every_from_all}
 use Rattle.std.proofs.lemmas.List.{length-set, length-take, get_or-set_same, get_or-set_other}
@@ -88,12 +88,12 @@ module _ (xs : List Order) (place by : ℕ) (x : Order) (there : At place xs x) 
       }
 
 -- where each order got its fill
-all_remaining : (Q : Order → Type 0) → ((x : Order) (by : ℕ) → by < x.quantity → Q x → Q (lessened x by)) → (xs : List Order) (fs : List ℕ) → All Q xs → All Q (remaining xs fs)
+all_remaining : (Q : Order → Type 0) → ((x : Order) (by : ℕ) → by < x.quantity → Q x → Q (lessened x by)) → (xs : List Order) (fs : List ℕ) → AllByRecursion Q xs → AllByRecursion Q (remaining xs fs)
 all_remaining Q lasts [] fs all = tt
 all_remaining Q lasts (x ∷ xs) [] all = all
 all_remaining Q lasts (x ∷ xs) (f ∷ fs) (here, rest) =
     let later = all_remaining Q lasts xs fs rest in
-    cond_both (nat_lt f x.quantity) (lessened x f ∷ remaining xs fs) (remaining xs fs) (All Q) (λ e. (lasts x f (ltb-true f x.quantity e) here, later)) (λ _. later)
+    cond_both (nat_lt f x.quantity) (lessened x f ∷ remaining xs fs) (remaining xs fs) (AllByRecursion Q) (λ e. (lasts x f (ltb-true f x.quantity e) here, later)) (λ _. later)
 
 pairwise_remaining : (P : Order → Order → Type 0) → Lasting P → (xs : List Order) (fs : List ℕ) → Pairwise P xs → Pairwise P (remaining xs fs)
 pairwise_remaining P lasts [] fs all = all

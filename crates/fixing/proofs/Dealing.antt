@@ -1,6 +1,6 @@
 -- Trades that go to the orders of a side in rank order.
 use Rattle.std.proofs.Common.{◌≡◌, ℕ, ◌+◌, cond, eqb, List, [], ◌∷◌, ◌++◌, map, length, sum, sym, refl, ap, ◌∙◌, subst, arith}
-use Rattle.std.specs.List.{AllByRecursion as All}
+use Rattle.std.specs.List.{AllByRecursion}
 use Rattle.std.proofs.lemmas.List.{append_assoc, append-nil}
 use Rattle.std.proofs.lemmas.List.Sums.{sum_by-append, sum_by-cons}
 use Rattle.std.proofs.lemmas.Bool.{eq-eqb, ne_eqb, cond-true, cond-false}
@@ -14,7 +14,7 @@ use Rattle.fixing.specs.Trades.{Dealt, gets, traded}
 
 module _ (side : Trade → ℕ) where
   -- one order more, with its trades
-  pub dealt_push : (xs : List Order) (fs : List ℕ) (ts : List Trade) (x : Order) (own : List Trade) → Dealt side xs fs ts → All (λ t. side t ≡ x.number) own → Dealt side (xs ++ x ∷ []) (fs ++ traded own ∷ []) (ts ++ own)
+  pub dealt_push : (xs : List Order) (fs : List ℕ) (ts : List Trade) (x : Order) (own : List Trade) → Dealt side xs fs ts → AllByRecursion (λ t. side t ≡ x.number) own → Dealt side (xs ++ x ∷ []) (fs ++ traded own ∷ []) (ts ++ own)
   dealt_push [] [] ts x own e mine = (own, [], ap (λ l. l ++ own) e ∙ sym (append-nil own), mine, refl, refl)
   dealt_push [] (f ∷ fs) ts x own e mine = absurd e
   dealt_push (y ∷ xs) [] ts x own e mine = absurd e
@@ -50,24 +50,24 @@ module _ (side : Trade → ℕ) where
   gets-append ts us x = sum_by-append (λ u. cond (eqb (side u) x.number) u.quantity 0) ts us
 
   -- an order gets all trades of its number, and none of another
-  gets_own : (ts : List Trade) (x : Order) → All (λ t. side t ≡ x.number) ts → gets side ts x ≡ traded ts
+  gets_own : (ts : List Trade) (x : Order) → AllByRecursion (λ t. side t ≡ x.number) ts → gets side ts x ≡ traded ts
   gets_own [] x all = refl
   gets_own (t ∷ ts) x (e, all) =
       omega (arith, gets-cons t ts x, cond-true (eqb (side t) x.number) t.quantity 0 (eq-eqb (side t) x.number e), sum_by-cons (λ u. u.quantity) t ts, gets_own ts x all)
 
-  gets_others : (ts : List Trade) (x y : Order) → All (λ t. side t ≡ y.number) ts → (y.number ≡ x.number → ⊥) → gets side ts x ≡ 0
+  gets_others : (ts : List Trade) (x y : Order) → AllByRecursion (λ t. side t ≡ y.number) ts → (y.number ≡ x.number → ⊥) → gets side ts x ≡ 0
   gets_others [] x y all ne = refl
   gets_others (t ∷ ts) x y (e, all) ne =
       omega (arith, gets-cons t ts x, cond-false (eqb (side t) x.number) t.quantity 0 (ne_eqb (side t) x.number (λ same. ne (sym e ∙ same))), gets_others ts x y all ne)
 
-  gets_nothing : (xs : List Order) (fs : List ℕ) (ts : List Trade) (x : Order) → Dealt side xs fs ts → All (λ y. Apart x y) xs → gets side ts x ≡ 0
+  gets_nothing : (xs : List Order) (fs : List ℕ) (ts : List Trade) (x : Order) → Dealt side xs fs ts → AllByRecursion (λ y. Apart x y) xs → gets side ts x ≡ 0
   gets_nothing [] [] ts x e apart = ap (λ l. gets side l x) e
   gets_nothing [] (f ∷ fs) ts x e apart = absurd e
   gets_nothing (y ∷ xs) [] ts x e apart = absurd e
   gets_nothing (y ∷ xs) (f ∷ fs) ts x (own, others, e, all, is, later) (here, apart) =
       ap (λ l. gets side l x) e ∙ gets-append own others x ∙ omega (arith, gets_others own x y all (λ same. here.0 (sym same)), gets_nothing xs fs others x later apart)
 
-  map-gets : (xs : List Order) (own others : List Trade) (y : Order) → All (λ t. side t ≡ y.number) own → All (λ x. Apart y x) xs → map (gets side (own ++ others)) xs ≡ map (gets side others) xs
+  map-gets : (xs : List Order) (own others : List Trade) (y : Order) → AllByRecursion (λ t. side t ≡ y.number) own → AllByRecursion (λ x. Apart y x) xs → map (gets side (own ++ others)) xs ≡ map (gets side others) xs
   map-gets [] own others y all apart = refl
   map-gets (x ∷ xs) own others y all (here, apart) =
       let same : gets side (own ++ others) x ≡ gets side others x = gets-append own others x ∙ omega (arith, gets_others own x y all here.0) in

@@ -1,6 +1,6 @@
 -- The trades of a fixing. Assumes nothing.
 use Rattle.std.specs.Prelude.{◌≡◌, ℕ, ◌≤◌, cond, List, [], ◌∷◌, ◌++◌, sum_by, ◌==◌, ◌≢◌}
-use Rattle.std.specs.List.{AllByRecursion as All}
+use Rattle.std.specs.List.{AllByRecursion}
 use Rattle.ranked.specs.Ranks.{Pairwise}
 use Rattle.book.specs.declared.order.Order.{Order}
 use Rattle.fixing.specs.declared.trade.Trade.{Trade}
@@ -26,7 +26,7 @@ Dealt side [] [] trades = trades ≡ []
 Dealt side [] (fill ∷ fills) trades = ⊥
 Dealt side (x ∷ xs) [] trades = ⊥
 Dealt side (x ∷ xs) (fill ∷ fills) trades =
-    (own : List Trade) × (others : List Trade) × (trades ≡ own ++ others) × All (λ t. side t ≡ x.number) own × (traded own ≡ fill) × Dealt side xs fills others
+    (own : List Trade) × (others : List Trade) × (trades ≡ own ++ others) × AllByRecursion (λ t. side t ≡ x.number) own × (traded own ≡ fill) × Dealt side xs fills others
 
 -- two trades are of two other orders on one side at least
 abbrev pub OtherOrders : Trade → Trade → Type 0
@@ -36,6 +36,6 @@ OtherOrders t u = t.buy ≡ u.buy → t.sell ≢ u.sell
 pub record Paired (price : ℕ) (buys sells : List Order) (bought sold : List ℕ) (trades : List Trade) : Type 0 where
   pub buyers : Dealt buyer buys bought trades
   pub sellers : Dealt seller sells sold trades
-  pub priced : All (λ t. t.price ≡ price) trades
-  pub some : All (λ t. 1 ≤ t.quantity) trades
+  pub priced : AllByRecursion (λ t. t.price ≡ price) trades
+  pub some : AllByRecursion (λ t. 1 ≤ t.quantity) trades
   pub once : Pairwise OtherOrders trades

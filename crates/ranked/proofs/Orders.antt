@@ -1,6 +1,6 @@
 -- One record more or less leaves the relations between the others, and so their rank order.
 use Rattle.std.proofs.Common.{◌≡◌, ℕ, zero, suc, ◌+◌, ◌-◌, ◌<◌, ◌≤◌, Bool, true, false, ◌⊎◌, List, ◌∷◌, length, get_or, ap, ◌∙◌, inl, inr, ⊎_elim, add-one, arith}
-use Rattle.std.specs.List.{insert, remove, AllByRecursion as All}
+use Rattle.std.specs.List.{insert, remove, AllByRecursion}
 use Rattle.std.proofs.lemmas.List.Edits.{length-remove, get_or-remove_below, get_or-remove_above, length-insert, get_or-insert_below, get_or-insert_at, get_or-insert_above}
 use Rattle.std.proofs.ByRecursion.{All-get_or, All-from_get_or}
 use Rattle.std.proofs.lemmas.Bool.{cases_lt, cases_order, cases_Bool}
@@ -73,17 +73,17 @@ module _ {R : Type 0} (before : R → R → Bool) (alike : R → R → Type 0)
 
 -- the relation, over a list with one record more in front
 module _ {R : Type 0} (P : R → R → Type 0) (x : R) (xs : List R) where
-  pub pairwise_head : Pairwise P (x ∷ xs) → All (P x) xs
+  pub pairwise_head : Pairwise P (x ∷ xs) → AllByRecursion (P x) xs
   pairwise_head all = All-from_get_or (P x) xs x (λ i within. rw add-one at (at_two P (x ∷ xs) all 0 (i + 1) x (omega arith) (omega arith)))
 
   pub pairwise_tail : Pairwise P (x ∷ xs) → Pairwise P xs
   pairwise_tail all = by_two P xs (λ i j d below within. rw (add-one, add-one) at (at_two P (x ∷ xs) all (i + 1) (j + 1) d (omega arith) (omega arith)))
 
-  consed : All (P x) xs → Pairwise P xs → (i j : ℕ) (d : R) → i < j → j < length (x ∷ xs) → P (get_or (x ∷ xs) i d) (get_or (x ∷ xs) j d)
+  consed : AllByRecursion (P x) xs → Pairwise P xs → (i j : ℕ) (d : R) → i < j → j < length (x ∷ xs) → P (get_or (x ∷ xs) i d) (get_or (x ∷ xs) j d)
   consed first rest zero zero d below within = absurd (omega arith)
   consed first rest zero (suc j) d below within = All-get_or (P x) xs j d (omega arith) first
   consed first rest (suc i) zero d below within = absurd (omega arith)
   consed first rest (suc i) (suc j) d below within = at_two P xs rest i j d (omega arith) (omega arith)
 
-  pub pairwise_cons : All (P x) xs → Pairwise P xs → Pairwise P (x ∷ xs)
+  pub pairwise_cons : AllByRecursion (P x) xs → Pairwise P xs → Pairwise P (x ∷ xs)
   pairwise_cons first rest = by_two P (x ∷ xs) (consed first rest)

@@ -2,7 +2,7 @@
 use Rattle.std.specs.Prelude.{ℕ, ◌^◌, ◌<◌, List, [], ◌∷◌, ◌++◌, length, FitsSigned}
 use Rattle.std.specs.Int.{w32}
 use Rattle.std.proofs.Common.{of_z}
-use Rattle.std.specs.List.{flat_map, AllByRecursion as All}
+use Rattle.std.specs.List.{flat_map, AllByRecursion}
 use Rattle.records.specs.Bytes.{big_endian}
 use Rattle.records.specs.declared.Bands.{Bands}
 use Rattle.records.specs.declared.Field.{Field}
@@ -84,4 +84,4 @@ FieldFits (Form n) = n < 2 ^ 8
 
 -- every field of the record is within its width, as those of every record that the code holds are
 abbrev pub RecordFits : Record → Type 0
-RecordFits r = All FieldFits (fields_of r)
+RecordFits r = AllByRecursion FieldFits (fields_of r)

@@ -1,6 +1,6 @@
 -- A listing grows with the reader. Assumes nothing.
 use Rattle.std.proofs.Common.{◌≡◌, ℕ, ◌≤◌, List, [], ◌∷◌, ◌++◌, length, drop, Some, None, Ok, Err, Option, Result, sym, refl, ap, ◌∙◌, subst, arith, length-append, take-append-drop}
-use Rattle.std.specs.List.{flat_map, AllByRecursion as All}
+use Rattle.std.specs.List.{flat_map, AllByRecursion}
 use Rattle.std.proofs.ByRecursion.{All-append}
 use Rattle.std.proofs.lemmas.List.{flat_map_more, length-take, length-take-le, length-drop, drop_all}
 use Rattle.rules.specs.Refusals.{number}
@@ -18,7 +18,7 @@ use Rattle.tape.proofs.Laws.{goes_on}
 pub record Sofar (tape text : List ℕ) (place : ℕ) (records : List Record) : Type 0 where
   pub read : ReadUpTo tape place records
   pub inside : place ≤ length tape
-  pub fit : All RecordFits records
+  pub fit : AllByRecursion RecordFits records
   pub ordered : GroupFirst records
   pub short : TooLong tape → ⊥
   pub listed : text ≡ flat_map listed_line records

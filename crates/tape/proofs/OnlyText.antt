@@ -1,6 +1,6 @@
 -- A tape has one listing. Assumes nothing.
 use Rattle.std.proofs.Common.{◌≡◌, ℕ, ◌+◌, ◌<◌, ◌⊎◌, List, [], ◌∷◌, ◌++◌, length, take, drop, sym, refl, ap, ◌∙◌, subst, inl, inr, append_assoc, arith, length-append}
-use Rattle.std.specs.List.{flat_map, AllByRecursion as All}
+use Rattle.std.specs.List.{flat_map, AllByRecursion}
 use Rattle.std.proofs.lemmas.List.{append_cancel_left}
 use Rattle.rules.specs.Refusals.{number}
 use Rattle.rules.specs.declared.refusal.Refusal.{Refusal}
@@ -19,7 +19,7 @@ abbrev Placed : ℕ → List Record → Type 0
 Placed place [] = Unit {0}
 Placed place (r ∷ records) = MayStand place (kind_of r) × Placed (place + length (spelling r)) records
 
-later : (records : List Record) (place : ℕ) → 1 < place → All (λ s. kind_of s ≡ kind.Group → ⊥) records → Placed place records
+later : (records : List Record) (place : ℕ) → 1 < place → AllByRecursion (λ s. kind_of s ≡ kind.Group → ⊥) records → Placed place records
 later [] place past none = tt
 later (r ∷ records) place past none =
     ((λ first. absurd (omega (arith, first)), λ group. absurd (none.0 group)), later records (place + length (spelling r)) (omega arith) none.1)
@@ -39,7 +39,7 @@ not_yet rest other place s records (inr (d, fault)) e may =
     no_fault rest (flat_map spelling records ++ other) place s (e ∙ append_assoc (spelling s) (flat_map spelling records) other) may d fault
 
 same_records : (place : ℕ) (rs ss : List Record) (rest other : List ℕ) → flat_map spelling rs ++ rest ≡ flat_map spelling ss ++ other →
-    All RecordFits rs → All RecordFits ss → Placed place rs → Placed place ss → Ends rest (place + length (flat_map spelling rs)) → Ends other (place + length (flat_map spelling ss)) → rs ≡ ss
+    AllByRecursion RecordFits rs → AllByRecursion RecordFits ss → Placed place rs → Placed place ss → Ends rest (place + length (flat_map spelling rs)) → Ends other (place + length (flat_map spelling ss)) → rs ≡ ss
 same_records place [] [] rest other e fr fs pr ps x y = refl
 same_records place [] (s ∷ ss) rest other e fr fs pr ps x y = absurd (not_yet rest other place s ss (subst (Ends rest) (omega arith) x) e ps.0)
 same_records place (r ∷ rs) [] rest other e fr fs pr ps x y = absurd (not_yet other rest place r rs (subst (Ends other) (omega arith) y) (sym e) pr.0)

@@ -1,6 +1,6 @@
 -- The text that lists a tape. Assumes nothing.
 use Rattle.std.specs.Prelude.{◌≡◌, ℕ, ◌+◌, ◌<◌, List, [], ◌∷◌, ◌++◌, length, ◌≢◌}
-use Rattle.std.specs.List.{flat_map, AllByRecursion as All}
+use Rattle.std.specs.List.{flat_map, AllByRecursion}
 use Rattle.rules.specs.Refusals.{number}
 use Rattle.rules.specs.declared.refusal.Refusal.{Refusal}
 use Rattle.tape.specs.Lines.{listed_line, tape_refused_line}
@@ -12,12 +12,12 @@ use Rattle.records.specs.declared.Record.{Record}
 -- the first record is the group's, and no other is
 abbrev pub GroupFirst : List Record → Type 0
 GroupFirst [] = Unit {0}
-GroupFirst (r ∷ records) = (kind_of r ≡ kind.Group) × All (λ s. kind_of s ≢ kind.Group) records
+GroupFirst (r ∷ records) = (kind_of r ≡ kind.Group) × AllByRecursion (λ s. kind_of s ≢ kind.Group) records
 
 -- the tape is the version byte, these records spelled one after another, and the rest
 pub record Holds (tape : List ℕ) (records : List Record) (rest : List ℕ) : Type 0 where
   pub spelled : tape ≡ version ∷ (flat_map spelling records ++ rest)
-  pub fit : All RecordFits records
+  pub fit : AllByRecursion RecordFits records
   pub ordered : GroupFirst records
   pub short : TooLong tape → ⊥
 
