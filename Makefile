@@ -6,9 +6,8 @@
 run:
 	@mkdir -p target
 	@echo 'proving and building list: about two minutes the first time' >&2
-	@rt check list > target/run.log 2>&1 || { cat target/run.log; exit 1; }
-	@target/bin/list < samples/session.tape
+	@cd crates/list && rt run <../../samples/session.tape 2>../../target/run.log || { cat ../../target/run.log >&2; exit 1; }
 
 test:
 	tools/check
-	rt ci
+	tools/prove
