@@ -1,3 +1,4 @@
 pub mod Numbers
 pub mod Letters
 pub mod Decoded
+pub mod Same

@@ -1,7 +1,6 @@
 -- How a record is spelled on the tape. Assumes nothing.
 use Rattle.std.specs.Prelude.{ℕ, ◌^◌, ◌<◌, List, [], ◌∷◌, ◌++◌, length, FitsSigned}
-use Rattle.std.specs.Int.{w32}
-use Rattle.std.proofs.Common.{of_z}
+use Rattle.std.specs.Int.{cast_unsigned, w32}
 use Rattle.std.specs.List.{flat_map, AllByRecursion}
 use Rattle.records.specs.Bytes.{big_endian}
 use Rattle.records.specs.declared.Bands.{Bands}
@@ -53,7 +52,7 @@ abbrev pub spelled : Field → List ℕ
 spelled (Byte n) = big_endian 1 n
 spelled (Two n) = big_endian 2 n
 spelled (Four n) = big_endian 4 n
-spelled (Band z) = big_endian 4 (of_z w32 z)
+spelled (Band z) = big_endian 4 (cast_unsigned w32 z)
 spelled (Form n) = big_endian 1 n
 
 -- what a record's length counts: the letter and the fields

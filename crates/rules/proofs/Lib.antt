@@ -1,1 +1,2 @@
 pub mod Rounding
+pub mod Numbers

@@ -1,5 +1,6 @@
 ghost use Rattle.std.specs.Prelude.{◌≡◌, ◌==◌, Decides};
 ghost use Rattle.rules.specs.Refusals.{number};
+ghost use Rattle.rules.specs.declared.refusal.Refusal.{Refusal};
 ghost use Rattle.std.specs.Cmp.Rules.{comparing};
 ghost use Rattle.std.proofs.Common.{rules};
 
@@ -40,9 +41,10 @@ pub enum Refusal {
 }
 
 impl Refusal {
-    // The number that the refusal is told by.
+    // The number that the refusal is told by. No other refusal has it.
     pub fn number(self) -> u8
-        ensures { result ≡ number self }
+        ensures value { result ≡ number self }
+        ensures alone { (other : Refusal) → number other ≡ result → other ≡ self }
     {
         self as u8
     }
