@@ -1,4 +1,5 @@
 -- One order more or less, and orders with less of their quantity, leave a side sound.
+-- Lemmas alone, with nothing to be believed: of its own crate, an `impl` can name only what stands in specs/.
 use Rattle.std.specs.Prelude.{◌≡◌, ℕ, suc, ◌<◌, ◌≤◌, Bool, true, ◌≢◌, List, [], ◌∷◌, length, take, drop, nat_lt, slice_index_or, slice_set, refl}
 use Rattle.std.proofs.Common.{sym, ◌∙◌, ⊎_elim, zero-le, arith}
 use Rattle.std.specs.List.{AllWithin, insert, remove, AllByRecursion}

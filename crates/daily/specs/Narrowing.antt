@@ -1,4 +1,5 @@
 -- What a layer of limits makes of the ranges below.
+-- Lemmas alone, with nothing to be believed: of its own crate, an `impl` can name only what stands in specs/.
 use Rattle.std.specs.Prelude.{◌≡◌, ℕ, pos}
 use Rattle.std.proofs.Common.{◌∙◌}
 use Rattle.std.specs.Int.{int_max, int_min}
