@@ -1,9 +1,10 @@
-// What every layer shares: the limits, the one list of refusals, and the tick.
+// What every layer shares: the limits, the one list of refusals, the tick, and what a trade is.
 #![tactic(auto)]
 
 pub mod limits;
 pub mod refusal;
 pub mod tick;
+pub mod trade;
 
 pub use limits::{
     GREATEST_BAND, GREATEST_MEMBER, GREATEST_PRICE, GREATEST_QUANTITY, GREATEST_SECOND,
@@ -11,3 +12,4 @@ pub use limits::{
 };
 pub use refusal::Refusal;
 pub use tick::Tick;
+pub use trade::Trade;

@@ -1,11 +1,9 @@
-ghost use Rattle.std.specs.Prelude.{◌≡◌, ◌==◌, Decides};
+ghost use Rattle.std.specs.Prelude.{◌≡◌};
 ghost use Rattle.rules.specs.Refusals.{number};
 ghost use Rattle.rules.specs.declared.refusal.Refusal.{Refusal};
-ghost use Rattle.std.specs.Cmp.Rules.{comparing};
-ghost use Rattle.std.proofs.Common.{rules};
 
 // Why a call refuses. Each case has the number that it is told by.
-#[derive(Clone, Copy, Debug)]
+#[derive(Clone, Copy, PartialEq, Eq, Debug)]
 pub enum Refusal {
     // caused by whoever builds the market into a product
     TradeListTooShort = 1,
@@ -41,28 +39,11 @@ pub enum Refusal {
 }
 
 impl Refusal {
-    // The number that the refusal is told by. No other refusal has it.
+    // The number that the refusal is told by. No other refusal has it. A name tells more than `u8::from`.
     pub fn number(self) -> u8
         ensures value { result ≡ number self }
         ensures alone { (other : Refusal) → number other ≡ result → other ≡ self }
     {
         self as u8
     }
-}
-
-impl PartialEq for Refusal {
-    ghost eq = { λ x y. number x == number y };
-
-    ghost laws = { Prim.search (comparing, rules) };
-
-    fn eq(&self, other: &Refusal) -> bool
-        ensures eq { result ≡ (number self.now == number other.now) }
-        ensures same { Decides result (self.now ≡ other.now) }
-    {
-        self.number() == other.number()
-    }
-}
-
-impl Eq for Refusal {
-    ghost laws = { Prim.search (comparing, rules) };
 }

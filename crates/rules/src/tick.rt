@@ -1,5 +1,5 @@
 // The tick of a contract.
-ghost use Rattle.std.specs.Prelude.{◌≡◌, MatchOption};
+ghost use Rattle.std.specs.Prelude.{◌≡◌, ◌↔◌, IfSome, IsSome};
 ghost use Rattle.rules.specs.Ticks.{IsTick, down, up, RoundedDown, RoundedUp};
 
 use crate::limits::GREATEST_TICK;
@@ -14,12 +14,14 @@ pub struct Tick {
 impl Tick {
     // The tick of this value, or `None` if the value is outside the limits.
     pub fn new(value: u32) -> Option<Tick>
-        ensures { MatchOption result (IsTick value → ⊥) (λ t. IsTick value × (t.value ≡ value)) }
+        ensures within { IsSome result ↔ IsTick value }
+        ensures value { IfSome result (λ t. t.value ≡ value) }
     {
-        if value == 0 || value > GREATEST_TICK {
-            return None;
+        if (1..=GREATEST_TICK).contains(&value) {
+            Some(Tick { value })
+        } else {
+            None
         }
-        Some(Tick { value })
     }
 
     pub fn value(self) -> u32
@@ -34,7 +36,8 @@ impl Tick {
         ensures value { result ≡ down self.value number }
         ensures rounded { RoundedDown self.value number result }
     {
-        self.multiple_below(number)
+        let number = i64::from(number);
+        number - number.rem_euclid(i64::from(self.value))
     }
 
     // The number rounded up: the least multiple of the tick that is at least the number.
@@ -42,22 +45,7 @@ impl Tick {
         ensures value { result ≡ up self.value number }
         ensures rounded { RoundedUp self.value number result }
     {
-        self.multiple_above(number)
-    }
-
-    fn multiple_below(self, number: i32) -> i64
-        ensures value { result ≡ down self.value number }
-        ensures rounded { RoundedDown self.value number result }
-    {
-        let number = number as i64;
-        number - number.rem_euclid(self.value as i64)
-    }
-
-    fn multiple_above(self, number: i32) -> i64
-        ensures value { result ≡ up self.value number }
-        ensures rounded { RoundedUp self.value number result }
-    {
-        let number = number as i64;
-        number + (-number).rem_euclid(self.value as i64)
+        let number = i64::from(number);
+        number + (-number).rem_euclid(i64::from(self.value))
     }
 }
