@@ -1,7 +1,6 @@
 // How far a range's ends lie from the base price.
-ghost use Rattle.std.specs.Prelude.{◌≡◌, ◌≤◌, MatchResult};
+ghost use Rattle.std.specs.Prelude.{◌≡◌, ◌≤◌, ◌↔◌, IsOk, IsErrOf, IfOk};
 ghost use Rattle.rules.specs.Limits.{greatest_price};
-ghost use Rattle.rules.specs.declared.refusal.Refusal.TheVariants as refusal;
 ghost use Rattle.band.specs.Bands.{IsBand, around, Around};
 
 use rules::{GREATEST_BAND, Refusal, Tick};
@@ -17,12 +16,15 @@ pub struct Band {
 impl Band {
     // The band of these distances.
     pub fn new(low: i32, high: i32) -> Result<Band, Refusal>
-        ensures { MatchResult result (λ b. IsBand low high × (b.low ≡ low) × (b.high ≡ high)) (λ e. (IsBand low high → ⊥) × (e ≡ refusal.TunnelOutsideLimits)) }
+        ensures within { IsOk result ↔ IsBand low high }
+        ensures refused { IsErrOf result Refusal.TunnelOutsideLimits ↔ ¬ IsBand low high }
+        ensures distances { IfOk result (λ band. (band.low ≡ low) × (band.high ≡ high)) }
     {
-        if low < -GREATEST_BAND || low > 0 || high < 0 || high > GREATEST_BAND {
-            return Err(Refusal::TunnelOutsideLimits);
+        if (-GREATEST_BAND..=0).contains(&low) && (0..=GREATEST_BAND).contains(&high) {
+            Ok(Band { low, high })
+        } else {
+            Err(Refusal::TunnelOutsideLimits)
         }
-        Ok(Band { low, high })
     }
 
     // The range around a base price.
@@ -31,6 +33,7 @@ impl Band {
         ensures range { result ≡ around tick.value self.low self.high base }
         ensures rounded { Around tick.value self.low self.high base result }
     {
+        // By `as`: a price fits, and `try_from` would add an error that cannot come.
         let base = base as i32;
         (tick.down(base + self.low), tick.up(base + self.high))
     }

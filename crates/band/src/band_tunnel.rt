@@ -1,11 +1,9 @@
 // The band tunnel.
-ghost use Rattle.std.specs.Prelude.{◌≡◌, MatchResult};
-ghost use Rattle.std.proofs.Common.{◌∙◌, ap, rules};
+ghost use Rattle.std.specs.Prelude.{◌≡◌, ◌↔◌, IsOk, IsErrOf, IfOk};
+ghost use Rattle.std.proofs.Common.{rules, tests};
 ghost use Rattle.rules.specs.Ticks.{IsTick};
-ghost use Rattle.rules.specs.declared.refusal.Refusal.TheVariants as refusal;
 ghost use Rattle.tunnel.specs.Trades.{tallied};
 ghost use Rattle.band.specs.Tunnels.{ranging, Ranging};
-ghost use Rattle.tunnel.proofs.Counting.{tallied_counts, tallied_other};
 
 use crate::band::Band;
 use rules::{Refusal, Tick};
@@ -24,18 +22,20 @@ pub struct BandTunnel {
 impl BandTunnel {
     // A tunnel with tally 0.
     pub fn new(tick: u32, buy: Band, sell: Band, auction: Band) -> Result<BandTunnel, Refusal>
-        ensures { MatchResult result (λ t. IsTick tick × (t.tick.value ≡ tick) × (t.buy ≡ buy) × (t.sell ≡ sell) × (t.auction ≡ auction) × (t.tally ≡ 0)) (λ e. (IsTick tick → ⊥) × (e ≡ refusal.TunnelOutsideLimits)) }
+        ensures within { IsOk result ↔ IsTick tick }
+        ensures refused { IsErrOf result Refusal.TunnelOutsideLimits ↔ ¬ IsTick tick }
+        ensures tick { IfOk result (λ tunnel. tunnel.tick.value ≡ tick) }
+        ensures bands { IfOk result (λ tunnel. (tunnel.buy ≡ buy) × (tunnel.sell ≡ sell) × (tunnel.auction ≡ auction)) }
+        ensures tally { IfOk result (λ tunnel. tunnel.tally ≡ 0) }
     {
-        match Tick::new(tick) {
-            Some(tick) => Ok(BandTunnel {
-                tick,
-                buy,
-                sell,
-                auction,
-                tally: 0,
-            }),
-            None => Err(Refusal::TunnelOutsideLimits),
-        }
+        let tick = Tick::new(tick).ok_or(Refusal::TunnelOutsideLimits)?;
+        Ok(BandTunnel {
+            tick,
+            buy,
+            sell,
+            auction,
+            tally: 0,
+        })
     }
 
     // The range that a band gives.
@@ -50,6 +50,7 @@ impl BandTunnel {
     }
 }
 
+// The trait has a method for each range, so the clauses stand at each, with the band that it is of.
 impl Tunnel for BandTunnel {
     ghost tally = { λ t. t.tally };
 
@@ -67,9 +68,9 @@ impl Tunnel for BandTunnel {
 
     ghost day_starts_at_zero = { Prim.search rules };
 
-    ghost told_trade_adds_its_quantity = { λ t trade u told counts. ap (λ v. v.tally) told ∙ tallied_counts t.tally trade counts };
+    ghost told_trade_adds_its_quantity = { Prim.search rules };
 
-    ghost other_trade_leaves_the_tally = { λ t trade u told other. ap (λ v. v.tally) told ∙ tallied_other t.tally trade other };
+    ghost other_trade_leaves_the_tally = { Prim.search (rules, tests) };
 
     ghost other_trade_leaves_the_ranges = { Prim.search rules };
 
@@ -104,7 +105,7 @@ impl Tunnel for BandTunnel {
 
     fn tell(&mut self, trade: ToldTrade) {
         if trade.counts(self.tally) {
-            self.tally += trade.quantity as u64;
+            self.tally += u64::from(trade.quantity);
         }
     }
 }

@@ -1,8 +1,7 @@
 // The layer of daily limits.
 ghost use Rattle.std.specs.Prelude.{◌≡◌};
-ghost use Rattle.daily.specs.Limits.{limited};
-ghost use Rattle.daily.specs.Narrowing.{not_limited, same_limited};
-ghost use Rattle.std.proofs.Common.{rules};
+ghost use Rattle.daily.specs.Narrowing.{limited};
+ghost use Rattle.std.proofs.Common.{rules, tests};
 
 use crate::limits::DailyLimits;
 use tunnel::{ToldTrade, Tunnel, askable};
@@ -17,7 +16,8 @@ pub struct Limited<T> {
 impl DailyLimits {
     // Lays the limits over a tunnel.
     pub fn over<T: Tunnel>(self, tunnel: T) -> Limited<T>
-        ensures { (result.limits ≡ self) × (result.below ≡ tunnel) }
+        ensures limits { result.limits ≡ self }
+        ensures below { result.below ≡ tunnel }
     {
         Limited {
             limits: self,
@@ -27,24 +27,23 @@ impl DailyLimits {
 
     // What the limits leave of a range of the tunnel below.
     fn limit(self, base: u32, second: u32, below: (i64, i64)) -> (i64, i64)
-        ensures { result ≡ limited self.low self.high base second below }
+        ensures { result ≡ limited self base second below }
     {
         if !askable(base, second) {
             return below;
         }
-        (
-            (self.low as i64).max(below.0),
-            (self.high as i64).min(below.1),
-        )
+        let (low, high) = below;
+        (i64::from(self.low).max(low), i64::from(self.high).min(high))
     }
 }
 
+// The trait has a method for each range, so that two of them limit the one below by the same call.
 impl<T: Tunnel> Tunnel for Limited<T> {
     ghost tally = { λ t. T.Tunnel.tally t.below };
 
-    ghost buying = { λ t base second. limited t.limits.low t.limits.high base second (T.Tunnel.buying t.below base second) };
+    ghost buying = { λ t base second. limited t.limits base second (T.Tunnel.buying t.below base second) };
 
-    ghost selling = { λ t base second. limited t.limits.low t.limits.high base second (T.Tunnel.selling t.below base second) };
+    ghost selling = { λ t base second. limited t.limits base second (T.Tunnel.selling t.below base second) };
 
     ghost auction = { λ t base second. T.Tunnel.auction t.below base second };
 
@@ -52,9 +51,7 @@ impl<T: Tunnel> Tunnel for Limited<T> {
 
     ghost tells = { λ t trade u. (u.limits ≡ t.limits) × T.Tunnel.tells t.below trade u.below };
 
-    ghost no_price_outside_limits = { λ t base second out.
-        let below = T.Tunnel.no_price_outside_limits t.below base second out in
-        (not_limited t.limits.low t.limits.high base second _ out below.0, not_limited t.limits.low t.limits.high base second _ out below.1, below.2) };
+    ghost no_price_outside_limits = { Prim.search (rules, tests) };
 
     ghost day_starts_at_zero = { Prim.search rules };
 
@@ -62,9 +59,7 @@ impl<T: Tunnel> Tunnel for Limited<T> {
 
     ghost other_trade_leaves_the_tally = { Prim.search rules };
 
-    ghost other_trade_leaves_the_ranges = { λ t trade u (limits, told) other base second.
-        let below = T.Tunnel.other_trade_leaves_the_ranges t.below trade u.below told other base second in
-        (same_limited u.limits t.limits base second _ _ limits below.0, same_limited u.limits t.limits base second _ _ limits below.1, below.2) };
+    ghost other_trade_leaves_the_ranges = { Prim.search rules };
 
     fn tally(&self) -> u64 {
         self.below.tally()

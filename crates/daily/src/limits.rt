@@ -1,6 +1,5 @@
 // Daily limits.
-ghost use Rattle.std.specs.Prelude.{◌≡◌, MatchResult};
-ghost use Rattle.rules.specs.declared.refusal.Refusal.TheVariants as refusal;
+ghost use Rattle.std.specs.Prelude.{◌≡◌, ◌↔◌, IsOk, IsErrOf, IfOk};
 ghost use Rattle.daily.specs.Limits.{AreLimits};
 
 use rules::{GREATEST_PRICE, Refusal};
@@ -16,11 +15,14 @@ pub struct DailyLimits {
 impl DailyLimits {
     // Limits are checked before there is a layer, so that a refusal costs no tunnel.
     pub fn new(low: u32, high: u32) -> Result<DailyLimits, Refusal>
-        ensures { MatchResult result (λ l. AreLimits low high × (l.low ≡ low) × (l.high ≡ high)) (λ e. (AreLimits low high → ⊥) × (e ≡ refusal.TunnelOutsideLimits)) }
+        ensures within { IsOk result ↔ AreLimits low high }
+        ensures refused { IsErrOf result Refusal.TunnelOutsideLimits ↔ ¬ AreLimits low high }
+        ensures prices { IfOk result (λ limits. (limits.low ≡ low) × (limits.high ≡ high)) }
     {
-        if low == 0 || low > high || high > GREATEST_PRICE {
-            return Err(Refusal::TunnelOutsideLimits);
+        if (1..=high).contains(&low) && high <= GREATEST_PRICE {
+            Ok(DailyLimits { low, high })
+        } else {
+            Err(Refusal::TunnelOutsideLimits)
         }
-        Ok(DailyLimits { low, high })
     }
 }

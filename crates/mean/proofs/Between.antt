@@ -1,6 +1,6 @@
 -- The limits around a centre.
-use Rattle.std.proofs.Common.{◌≡◌, ℕ, zero, suc, ◌+◌, ◌*◌, ◌/◌, ◌%◌, ◌^◌, ◌<◌, ◌≤◌, min, ℤ, pos, negsuc, ◌+ℤ◌, ◌-ℤ◌, ◌*ℤ◌, ◌≤ℤ◌, ◌<ℤ◌, sym, refl, ap, ◌∙◌, subst, add-zero, mul-le-mul_right, mod-lt, suc-mul, mul_comm, add-one, arith, w32, w64, to_z, of_z}
-use native.Mathlib.Nat.{mod-add-div', div-le_of_le-mul}
+use Rattle.std.proofs.Common.{◌≡◌, ℕ, zero, suc, ◌+◌, ◌*◌, ◌/◌, ◌%◌, ◌^◌, ◌<◌, ◌≤◌, min, ℤ, pos, negsuc, ◌+ℤ◌, ◌-ℤ◌, ◌*ℤ◌, ◌≤ℤ◌, ◌<ℤ◌, sym, refl, ap, ◌∙◌, subst, add-zero, mul-le-mul_right, mod-lt, suc-mul, add-one, arith, w32, w64, to_z, of_z}
+use Rattle.std.proofs.Math.Nat.{mod-add-div', div-le_of_le-mul}
 use lib.Signed.{mag}
 use Rattle.std.proofs.lemmas.Int.{ints}
 use Rattle.rules.specs.Limits.{greatest_price, greatest_band}
@@ -71,18 +71,11 @@ between_limits tick w (n, q) t h = (down tick (pos (n / q) -ℤ pos w), up tick 
 
 -- an average of prices within their limits is within them
 pub floor_within : (n q : ℕ) → 1 ≤ q → n ≤ greatest_price * q → n / q ≤ greatest_price
-floor_within n q h g = div-le_of_le-mul q (subst (λ k. n ≤ k) (mul_comm greatest_price q) g)
+floor_within n q h g = div-le_of_le-mul q (omega arith)
 
 pub ceil_within : (n q : ℕ) → 1 ≤ q → n ≤ greatest_price * q → n / q + min 1 (n % q) ≤ greatest_price + 1
 ceil_within n q h g =
-    let most = floor_within n q h g in
-    omega arith
-
-one_up : (r : ℤ) → mag r < 2 ^ 63 → r ≤ℤ pos greatest_price → to_z w64 (of_z w64 (to_z w64 (of_z w64 r) +ℤ pos 1)) ≡ r +ℤ pos 1
-one_up r fits most = omega (arith, ints)
-
-one_down : (r : ℤ) → mag r < 2 ^ 63 → pos 0 ≤ℤ r → to_z w64 (of_z w64 (to_z w64 (of_z w64 r) -ℤ pos 1)) ≡ r -ℤ pos 1
-one_down r fits least = omega (arith, ints)
+    omega (arith, floor_within n q h g)
 
 -- the ends as they are computed: the centre rounded to a whole number, the half-width, the tick, and one further in
 pub low_end : (tick k w : ℕ) (f r : ℤ) → 1 ≤ tick → k ≤ greatest_price → w ≤ greatest_band → f ≡ pos k → mag r < 2 ^ 63 → r ≡ down tick (to_z w32 (of_z w32 (to_z w32 (of_z w32 f) -ℤ to_z w32 w))) → to_z w64 (of_z w64 (to_z w64 (of_z w64 r) +ℤ pos 1)) ≡ down tick (pos k -ℤ pos w) +ℤ pos 1
@@ -90,7 +83,7 @@ low_end tick k w f r t most wide whole fits e =
     let y : to_z w32 (of_z w32 (to_z w32 (of_z w32 f) -ℤ to_z w32 w)) ≡ pos k -ℤ pos w = omega (arith, ints) in
     let low : r ≡ down tick (pos k -ℤ pos w) = e ∙ ap (down tick) y in
     let (multiple, below, next) = down_rounded tick (pos k -ℤ pos w) r t low in
-    let one : to_z w64 (of_z w64 (to_z w64 (of_z w64 r) +ℤ pos 1)) ≡ r +ℤ pos 1 = one_up r fits (omega (arith, ints, below, most)) in
+    let one : to_z w64 (of_z w64 (to_z w64 (of_z w64 r) +ℤ pos 1)) ≡ r +ℤ pos 1 = omega (arith, ints) in
     one ∙ ap (λ v. v +ℤ pos 1) low
 
 pub high_end : (tick k w : ℕ) (f r : ℤ) → 1 ≤ tick → k ≤ greatest_price + 1 → w ≤ greatest_band → f ≡ pos k → mag r < 2 ^ 63 → r ≡ up tick (to_z w32 (of_z w32 (to_z w32 (of_z w32 f) +ℤ to_z w32 w))) → to_z w64 (of_z w64 (to_z w64 (of_z w64 r) -ℤ pos 1)) ≡ up tick (pos k +ℤ pos w) -ℤ pos 1
@@ -98,7 +91,7 @@ high_end tick k w f r t most wide whole fits e =
     let y : to_z w32 (of_z w32 (to_z w32 (of_z w32 f) +ℤ to_z w32 w)) ≡ pos k +ℤ pos w = omega (arith, ints) in
     let high : r ≡ up tick (pos k +ℤ pos w) = e ∙ ap (up tick) y in
     let (multiple, above, next) = up_rounded tick (pos k +ℤ pos w) r t high in
-    let one : to_z w64 (of_z w64 (to_z w64 (of_z w64 r) -ℤ pos 1)) ≡ r -ℤ pos 1 = one_down r fits (omega (arith, ints, above)) in
+    let one : to_z w64 (of_z w64 (to_z w64 (of_z w64 r) -ℤ pos 1)) ≡ r -ℤ pos 1 = omega (arith, ints) in
     one ∙ ap (λ v. v -ℤ pos 1) high
 
 pub ends_between : (tick w : ℕ) (c : Fraction) (range : Range) → 1 ≤ tick → 1 ≤ c.1 → range ≡ between tick w c → Between tick w c range

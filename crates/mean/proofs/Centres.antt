@@ -1,8 +1,14 @@
 -- The centre, by the trades and by the summary of them.
-use Rattle.std.proofs.Common.{◌≡◌, ℕ, ◌+◌, ◌*◌, ◌<◌, ◌≤◌, max, cond, eqb, ◌⊎◌, List, [], ◌∷◌, sym, refl, ap, ◌∙◌, inl, inr, zero-add, arith}
+use Rattle.std.specs.Prelude.{Option, None, Some}
+use Rattle.std.specs.Option.{option_map_or}
+use Rattle.std.proofs.Common.{ap₂, ◌≡◌, ℕ, ◌+◌, ◌*◌, ◌<◌, ◌≤◌, max, cond, eqb, ◌⊎◌, List, [], ◌∷◌, sym, refl, ap, ◌∙◌, inl, inr, arith}
+use Rattle.std.proofs.lemmas.Bool.{cases_lt}
+use Rattle.std.proofs.lemmas.List.Sums.{sum_by-cons}
 use Rattle.tunnel.specs.declared.trade.ToldTrade.{ToldTrade}
-use Rattle.mean.specs.Means.{Fraction, period, latest, sum_before, value_before, quantity_before, price_before, centre}
-use Rattle.mean.specs.Summaries.{Remembers, fraction, centre_in}
+use Rattle.mean.specs.Averages.{fraction, together, totals}
+use Rattle.mean.specs.Means.{period, latest, sum_before, value_before, quantity_before, price_before, centre}
+use Rattle.mean.specs.Summaries.{Remembers, centre_in}
+use Rattle.mean.specs.declared.average.Average.{Average}
 use Rattle.mean.specs.declared.summary.Summary.{Summary}
 
 -- of a period that begins later than the next, no trade counts in the one before
@@ -24,13 +30,21 @@ centred_before settlement s xs k r h =
     let here : centre_in s k ≡ fraction s.centre = grind (arith, r.period) in
     here ∙ r.centred ∙ ap (centre settlement xs) (sym e)
 
+-- of a period with trades their average is the centre of the next one, and of a period with none the last price
+next_centre : (settlement : ℕ) (current : Option Average) (last : ℕ) (xs : List ToldTrade) → totals current ≡ (value_before (latest xs + 1) xs, quantity_before (latest xs + 1) xs) → last ≡ price_before settlement (latest xs + 1) xs → option_map_or fraction current (last, 1) ≡ centre settlement xs (latest xs + 1)
+next_centre settlement None last xs e p =
+    let none : quantity_before (latest xs + 1) xs ≡ 0 = sym (ap (λ f. f.1) e) in
+    grind (arith, none, p)
+next_centre settlement (Some told) last xs e p =
+    let q : told.quantity ≡ quantity_before (latest xs + 1) xs = ap (λ f. f.1) e in
+    let v : told.value ≡ value_before (latest xs + 1) xs = ap (λ f. f.0) e in
+    grind (arith, q, v, told.some)
+
 centred_next : (settlement : ℕ) (s : Summary) (xs : List ToldTrade) (k : ℕ) → Remembers settlement s xs → k ≡ latest xs + 1 → centre_in s k ≡ centre settlement xs (max k (latest xs))
 centred_next settlement s xs k r h =
     let e : max k (latest xs) ≡ latest xs + 1 = omega arith in
-    let q : s.current.quantity ≡ quantity_before (latest xs + 1) xs = ap (λ f. f.1) r.current in
-    let v : s.current.value ≡ value_before (latest xs + 1) xs = ap (λ f. f.0) r.current in
-    let here : centre_in s k ≡ centre settlement xs (latest xs + 1) = grind (arith, q, v, r.period, r.last, h) in
-    here ∙ ap (centre settlement xs) (sym e)
+    let here : centre_in s k ≡ option_map_or fraction s.current (s.last, 1) = grind (arith, r.period, h) in
+    here ∙ next_centre settlement s.current s.last xs r.current r.last ∙ ap (centre settlement xs) (sym e)
 
 centred_later : (settlement : ℕ) (s : Summary) (xs : List ToldTrade) (k : ℕ) → Remembers settlement s xs → latest xs + 1 < k → centre_in s k ≡ centre settlement xs (max k (latest xs))
 centred_later settlement s xs k r h =
@@ -76,28 +90,17 @@ price_now : (settlement : ℕ) (x : ToldTrade) (xs : List ToldTrade) → price_b
 price_now settlement x xs = grind arith
 
 -- a summary with a trade more is of the trades with that one in front
-grown : (settlement : ℕ) (s t : Summary) (x : ToldTrade) (xs : List ToldTrade) → Remembers settlement s xs → t.tally ≡ s.tally + x.quantity → fraction t.centre ≡ centre_in s (period x.second) → t.last ≡ x.price → t.period ≡ latest (x ∷ xs) → fraction t.current ≡ (value_before (latest (x ∷ xs) + 1) (x ∷ xs), quantity_before (latest (x ∷ xs) + 1) (x ∷ xs)) → Remembers settlement t (x ∷ xs)
-grown settlement s t x xs r tally centred last at current = record {
-  tally = omega (arith, tally, r.tally);
-  period = at;
-  current = current;
-  centred = centred ∙ centre_kept settlement s xs (period x.second) r ∙ sym (centre_before settlement x xs);
-  last = last ∙ sym (price_now settlement x xs);
-}
-
--- `before` is what was told in the period that the trade counts in
-pub grown_by : (settlement : ℕ) (s t : Summary) (x : ToldTrade) (xs : List ToldTrade) (before : Fraction) → Remembers settlement s xs → t.tally ≡ s.tally + x.quantity → fraction t.centre ≡ centre_in s (period x.second) → t.last ≡ x.price → t.period ≡ max s.period (period x.second) → (period x.second ≤ s.period → before ≡ fraction s.current) → (s.period < period x.second → before ≡ (0, 0)) → t.current.value ≡ before.0 + x.price * x.quantity → t.current.quantity ≡ before.1 + x.quantity → Remembers settlement t (x ∷ xs)
-grown_by settlement s t x xs before r tally centred last at latest-told later-told value quantity =
-    let at_latest : t.period ≡ latest (x ∷ xs) = omega (arith, at, r.period) in
+pub grown : (settlement : ℕ) (s t : Summary) (x : ToldTrade) (xs : List ToldTrade) → Remembers settlement s xs → t.tally ≡ s.tally + x.quantity → t.period ≡ max s.period (period x.second) → (period x.second ≤ s.period → totals t.current ≡ together (totals s.current) (x.price * x.quantity, x.quantity)) → (s.period < period x.second → totals t.current ≡ (x.price * x.quantity, x.quantity)) → fraction t.centre ≡ centre_in s (period x.second) → t.last ≡ x.price → Remembers settlement t (x ∷ xs)
+grown settlement s t x xs r tally at within later centred last =
     let paid : ToldTrade → ℕ = λ y. y.price * y.quantity in
     let size : ToldTrade → ℕ = λ y. y.quantity in
-    let sums : (f : ToldTrade → ℕ) (b : ℕ) → (period x.second ≤ s.period → b ≡ sum_before f (latest xs + 1) xs) → (s.period < period x.second → b ≡ 0) → b + f x ≡ sum_before f (latest (x ∷ xs) + 1) (x ∷ xs) =
-    λ f b within later. elim (split (period x.second) s.period) [
-      | inl h ↦ ap (λ k. k + f x) (within h) ∙ sym (sum_more f x xs (omega (arith, h, r.period)))
-      | inr g ↦
-          let h : s.period < period x.second = elim g [ inl e ↦ omega (arith, e) | inr e ↦ omega (arith, e) ] in
-          ap (λ k. k + f x) (later h) ∙ zero-add (f x) ∙ sym (sum_first f x xs (omega (arith, h, r.period)))
-    ] in
-    let v = value ∙ sums paid before.0 (λ h. ap (λ c. c.0) (latest-told h ∙ r.current)) (λ h. ap (λ c. c.0) (later-told h)) in
-    let q = quantity ∙ sums size before.1 (λ h. ap (λ c. c.1) (latest-told h ∙ r.current)) (λ h. ap (λ c. c.1) (later-told h)) in
-    grown settlement s t x xs r tally centred last at_latest (λ i. (v i, q i))
+    record {
+      tally = omega (arith, tally, r.tally, sum_by-cons size x xs);
+      period = omega (arith, at, r.period);
+      current = elim (cases_lt s.period (period x.second)) [
+        | inl h ↦ later h ∙ ap₂ (λ v q. (v, q)) (sym (sum_first paid x xs (omega (arith, h, r.period)))) (sym (sum_first size x xs (omega (arith, h, r.period))))
+        | inr h ↦ within h ∙ ap (λ told. together told (x.price * x.quantity, x.quantity)) r.current ∙ ap₂ (λ v q. (v, q)) (sym (sum_more paid x xs (omega (arith, h, r.period)))) (sym (sum_more size x xs (omega (arith, h, r.period))))
+      ];
+      centred = centred ∙ centre_kept settlement s xs (period x.second) r ∙ sym (centre_before settlement x xs);
+      last = last ∙ sym (price_now settlement x xs);
+    }

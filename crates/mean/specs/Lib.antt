@@ -1,3 +1,4 @@
+pub mod Averages
 pub mod Means
 pub mod Summaries
 pub mod Tunnels

@@ -1,6 +1,6 @@
 -- The centre of the mean-price tunnel, over the trades that were told since the day's start, and the range around it.
 -- A list of trades has the trade last told first. Assumes nothing.
-use Rattle.std.specs.Prelude.{◌≡◌, ℕ, ◌+◌, ◌*◌, ◌/◌, ◌%◌, ◌≤◌, min, max, cond, List, [], ◌∷◌, ℤ, pos, ◌+ℤ◌, ◌-ℤ◌, ◌*ℤ◌, ◌≤ℤ◌, ◌<ℤ◌, ◌==◌, nat_lt}
+use Rattle.std.specs.Prelude.{◌≡◌, ℕ, ◌+◌, ◌*◌, ◌/◌, ◌%◌, ◌≤◌, min, max, if◌then◌else◌, List, [], ◌∷◌, ℤ, pos, ◌+ℤ◌, ◌-ℤ◌, ◌*ℤ◌, ◌≤ℤ◌, ◌<ℤ◌, ◌==◌, nat_lt}
 use Rattle.rules.specs.Limits.{greatest_price, greatest_band}
 use Rattle.rules.specs.Ticks.{IsTick, Multiple, down, up}
 use Rattle.tunnel.specs.Ranges.{Range}
@@ -19,7 +19,7 @@ latest (x ∷ xs) = max (period x.second) (latest xs)
 -- the sum of a number over the trades that count in the period before period k
 abbrev pub sum_before : (ToldTrade → ℕ) → ℕ → List ToldTrade → ℕ
 sum_before f k [] = 0
-sum_before f k (x ∷ xs) = cond (latest (x ∷ xs) + 1 == k) (f x) 0 + sum_before f k xs
+sum_before f k (x ∷ xs) = (if latest (x ∷ xs) + 1 == k then f x else 0) + sum_before f k xs
 
 -- the quantity of those trades
 abbrev pub quantity_before : ℕ → List ToldTrade → ℕ
@@ -32,7 +32,7 @@ value_before = sum_before (λ x. x.price * x.quantity)
 -- the price last told before period k, and the settlement price if there is none
 abbrev pub price_before : ℕ → ℕ → List ToldTrade → ℕ
 price_before settlement k [] = settlement
-price_before settlement k (x ∷ xs) = cond (nat_lt (latest (x ∷ xs)) k) x.price (price_before settlement k xs)
+price_before settlement k (x ∷ xs) = if nat_lt (latest (x ∷ xs)) k then x.price else price_before settlement k xs
 
 -- a price as a fraction: a value, and the quantity that it is divided by
 abbrev pub Fraction : Type 0
@@ -40,7 +40,8 @@ Fraction = ℕ × ℕ
 
 -- the centre in period k, which is not before the latest period of the trades
 abbrev pub centre : ℕ → List ToldTrade → ℕ → Fraction
-centre settlement xs k = cond (quantity_before k xs == 0) (price_before settlement k xs, 1) (value_before k xs, quantity_before k xs)
+centre settlement xs k =
+    if quantity_before k xs == 0 then (price_before settlement k xs, 1) else (value_before k xs, quantity_before k xs)
 
 -- the centre for a question at a second: it counts as of the latest period of the trades if its own is earlier
 abbrev pub centre_at : ℕ → List ToldTrade → ℕ → Fraction

@@ -1,8 +1,7 @@
 // The mean-price tunnel, made within its limits.
-ghost use Rattle.std.specs.Prelude.{◌≡◌, [], MatchResult};
-ghost use Rattle.rules.specs.declared.refusal.Refusal.TheVariants as refusal;
+ghost use Rattle.std.specs.Prelude.{◌≡◌, ◌↔◌, [], IsOk, IsErrOf, IfOk};
 ghost use Rattle.mean.specs.Means.{AreParameters, IsPrice, IsWidth};
-ghost use Rattle.mean.specs.Summaries.{Central, Counted, Priced, Remembers, RemembersSome};
+ghost use Rattle.mean.specs.Summaries.{Remembers, RemembersSome};
 
 use crate::summary::Summary;
 use rules::{GREATEST_BAND, GREATEST_PRICE, Refusal, Tick};
@@ -16,32 +15,28 @@ pub struct MeanTunnel {
     pub(crate) summary: Summary,
     ghost width: { IsWidth half_width },
     ghost settled: { IsPrice settlement },
-    ghost counted: { Counted summary },
-    ghost current: { Priced summary.current },
-    ghost centred: { Priced summary.centre },
-    ghost central: { Central summary },
     ghost remembering: { RemembersSome settlement summary },
 }
 
 impl MeanTunnel {
     // A tunnel that was told no trade.
     pub fn new(tick: u32, half_width: u32, settlement: u32) -> Result<MeanTunnel, Refusal>
-        ensures { MatchResult result (λ t. AreParameters tick half_width settlement × (t.tick.value ≡ tick) × (t.half_width ≡ half_width) × (t.settlement ≡ settlement) × Remembers settlement t.summary []) (λ e. (AreParameters tick half_width settlement → ⊥) × (e ≡ refusal.TunnelOutsideLimits)) }
+        ensures within { IsOk result ↔ AreParameters tick half_width settlement }
+        ensures refused { IsErrOf result Refusal.TunnelOutsideLimits ↔ ¬ AreParameters tick half_width settlement }
+        ensures parameters { IfOk result (λ tunnel. (tunnel.tick.value ≡ tick) × (tunnel.half_width ≡ half_width) × (tunnel.settlement ≡ settlement)) }
+        ensures empty { IfOk result (λ tunnel. Remembers settlement tunnel.summary []) }
     {
-        if half_width == 0 || half_width > GREATEST_BAND as u32 {
+        let tick = Tick::new(tick).ok_or(Refusal::TunnelOutsideLimits)?;
+        let half_widths = 1..=GREATEST_BAND as u32;
+        let prices = 1..=GREATEST_PRICE;
+        if !half_widths.contains(&half_width) || !prices.contains(&settlement) {
             return Err(Refusal::TunnelOutsideLimits);
         }
-        if settlement == 0 || settlement > GREATEST_PRICE {
-            return Err(Refusal::TunnelOutsideLimits);
-        }
-        match Tick::new(tick) {
-            Some(tick) => Ok(MeanTunnel {
-                tick,
-                half_width,
-                settlement,
-                summary: Summary::start(settlement),
-            }),
-            None => Err(Refusal::TunnelOutsideLimits),
-        }
+        Ok(MeanTunnel {
+            tick,
+            half_width,
+            settlement,
+            summary: Summary::start(settlement),
+        })
     }
 }

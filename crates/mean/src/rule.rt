@@ -13,6 +13,7 @@ use tunnel::{NO_PRICE, ToldTrade, Tunnel, askable, every_price};
 
 impl MeanTunnel {
     // The range around the mean price at a second.
+    #[tactic(auto, using(crate::proofs::Days::ruled))]
     fn around_mean(&self, second: u32) -> (i64, i64)
         ensures range { result ≡ between self.now.tick.value self.now.half_width (centre_in self.now.summary (period second)) }
         ensures rule { (told : List ToldTrade) → Remembered self.now told → ByTheRule self.now told second result }
@@ -20,16 +21,9 @@ impl MeanTunnel {
         let centre = self.summary.centre(second / PERIOD);
         centre.range(self.tick, self.half_width)
     }
-
-    // Forgets the trades.
-    fn restart(&mut self)
-        ensures started { Starts self.old self.new }
-        ensures range_by_what_counted { RangeByWhatCounted }
-    {
-        self.summary = Summary::start(self.settlement);
-    }
 }
 
+// Buy and sell orders have one range, so that two methods of the trait are the same call.
 impl Tunnel for MeanTunnel {
     ghost tally = { λ t. t.summary.tally };
 
@@ -80,7 +74,7 @@ impl Tunnel for MeanTunnel {
         ensures started { Starts self.old self.new }
         ensures range_by_what_counted { RangeByWhatCounted }
     {
-        self.restart();
+        self.summary = Summary::start(self.settlement);
     }
 
     fn tell(&mut self, trade: ToldTrade) {

@@ -3,14 +3,16 @@
 // start days, tell trades and ask.
 #![tactic(auto)]
 
-use anyhow::anyhow;
+use anyhow::{Context, bail, ensure};
 use band::{Band, BandTunnel};
 use daily::DailyLimits;
 use mean::MeanTunnel;
 use outside::LastPriceTunnel;
 use rules::Refusal;
+use std::alloc::Global;
+use std::error::Error;
 use std::io::Read;
-use std::str::SplitWhitespace;
+use std::str::{FromStr, SplitWhitespace};
 use tunnel::{ToldTrade, Tunnel};
 
 mod outside;
@@ -18,11 +20,12 @@ mod outside;
 mod tests;
 
 // What a line of a block says.
-#[derive(Drop)]
+#[derive(Clone, Copy)]
 enum Line {
     Band {
         tick: u32,
-        bands: [i32; 6],
+        // low and high for buy orders, sell orders, auctions
+        bands: [(i32, i32); 3],
     },
     Mean {
         tick: u32,
@@ -46,77 +49,67 @@ enum Line {
 }
 
 fn word<'a>(words: &mut SplitWhitespace<'a>) -> anyhow::Result<&'a str> {
-    match words.next() {
-        Some(word) => Ok(word),
-        None => Err(anyhow!("a line is cut short")),
+    words.next().context("a line is cut short")
+}
+
+fn number<N: FromStr>(words: &mut SplitWhitespace) -> anyhow::Result<N>
+where
+    N::Err: Error,
+{
+    Ok(word(words)?.parse::<N>()?)
+}
+
+fn distances(words: &mut SplitWhitespace) -> anyhow::Result<(i32, i32)> {
+    Ok((number(words)?, number(words)?))
+}
+
+impl FromStr for Line {
+    type Err = anyhow::Error;
+
+    fn from_str(line: &str) -> anyhow::Result<Line> {
+        let words = &mut line.split_whitespace();
+        let line = match word(words)? {
+            "band" => Line::Band {
+                tick: number(words)?,
+                bands: [distances(words)?, distances(words)?, distances(words)?],
+            },
+            "mean" => Line::Mean {
+                tick: number(words)?,
+                half_width: number(words)?,
+                settlement: number(words)?,
+            },
+            "last" => Line::Last {
+                width: number(words)?,
+                first: number(words)?,
+            },
+            "limits" => Line::Limits {
+                low: number(words)?,
+                high: number(words)?,
+            },
+            "start" => Line::Start,
+            "tell" => Line::Tell(ToldTrade {
+                price: number(words)?,
+                quantity: number(words)?,
+                second: number(words)?,
+            }),
+            "ask" => Line::Ask {
+                base: number(words)?,
+                second: number(words)?,
+            },
+            _ => bail!("a line begins with no known word"),
+        };
+        ensure!(words.next().is_none(), "a line has too many words");
+        Ok(line)
     }
 }
 
-fn number(words: &mut SplitWhitespace) -> anyhow::Result<u32> {
-    Ok(word(words)?.parse::<u32>()?)
-}
-
-fn distance(words: &mut SplitWhitespace) -> anyhow::Result<i32> {
-    Ok(word(words)?.parse::<i32>()?)
-}
-
-fn bands(words: &mut SplitWhitespace) -> anyhow::Result<[i32; 6]> {
-    Ok([
-        distance(words)?,
-        distance(words)?,
-        distance(words)?,
-        distance(words)?,
-        distance(words)?,
-        distance(words)?,
-    ])
-}
-
-fn read(line: &str) -> anyhow::Result<Line> {
-    let mut words = line.split_whitespace();
-    let words = &mut words;
-    let line = match word(words)? {
-        "band" => Line::Band {
-            tick: number(words)?,
-            bands: bands(words)?,
-        },
-        "mean" => Line::Mean {
-            tick: number(words)?,
-            half_width: number(words)?,
-            settlement: number(words)?,
-        },
-        "last" => Line::Last {
-            width: number(words)?,
-            first: number(words)?,
-        },
-        "limits" => Line::Limits {
-            low: number(words)?,
-            high: number(words)?,
-        },
-        "start" => Line::Start,
-        "tell" => Line::Tell(ToldTrade {
-            price: number(words)?,
-            quantity: number(words)?,
-            second: number(words)?,
-        }),
-        "ask" => Line::Ask {
-            base: number(words)?,
-            second: number(words)?,
-        },
-        _ => return Err(anyhow!("a line begins with no known word")),
-    };
-    match words.next() {
-        Some(_) => Err(anyhow!("a line has too many words")),
-        None => Ok(line),
-    }
-}
-
-fn refused(rt: &HostRuntime, refusal: Refusal) -> anyhow::Result<()> {
+fn refused(rt: &impl Print, refusal: Refusal) -> anyhow::Result<()> {
     let number = refusal.number();
     println!(rt; "refused {number}")?;
     Ok(())
 }
 
-fn show<T: Tunnel>(rt: &HostRuntime, tunnel: &T, base: u32, second: u32) -> anyhow::Result<()> {
+fn show<T: Tunnel>(rt: &impl Print, tunnel: &T, base: u32, second: u32) -> anyhow::Result<()> {
     let (buy_low, buy_high) = tunnel.buy_range(base, second);
     let (sell_low, sell_high) = tunnel.sell_range(base, second);
     let (auction_low, auction_high) = tunnel.auction_range(base, second);
@@ -128,101 +121,95 @@ fn show<T: Tunnel>(rt: &HostRuntime, tunnel: &T, base: u32, second: u32) -> anyh
 }
 
 // Starts days, tells and asks as the lines behind the first one say.
-fn answer<T: Tunnel + Drop>(rt: &HostRuntime, mut tunnel: T, block: &str) -> anyhow::Result<()> {
-    let mut lines = block.lines();
-    let _ = lines.next();
-    for line in lines {
-        match read(line)? {
+fn answer<T: Tunnel + Drop>(rt: &impl Print, mut tunnel: T, block: &str) -> anyhow::Result<()> {
+    for line in block.lines().skip(1) {
+        match line.parse::<Line>()? {
             Line::Start => tunnel.start_day(),
             Line::Tell(trade) => tunnel.tell(trade),
             Line::Ask { base, second } => show(rt, &tunnel, base, second)?,
             Line::Limits { .. } => {}
-            _ => return Err(anyhow!("a block has two tunnels")),
+            _ => bail!("a block has two tunnels"),
         }
     }
     Ok(())
 }
 
-// Limits to lay over a tunnel, the lower layer first.
-#[derive(Clone, Copy)]
-enum Layers {
-    None,
-    One(DailyLimits),
-    Two(DailyLimits, DailyLimits),
-}
-
-impl Layers {
-    fn with(self, limits: DailyLimits) -> anyhow::Result<Layers> {
-        match self {
-            Layers::None => Ok(Layers::One(limits)),
-            Layers::One(below) => Ok(Layers::Two(below, limits)),
-            Layers::Two(_, _) => Err(anyhow!("a block has three layers")),
-        }
-    }
-}
-
-// The limits of the block that are not refused.
-fn layers_of(rt: &HostRuntime, block: &str) -> anyhow::Result<Layers> {
-    let mut layers = Layers::None;
+// The limits of the block that are not refused, the lower layer first, two at most.
+fn layers_of(rt: &impl Print, alloc: Global, block: &str) -> anyhow::Result<Vec<DailyLimits>> {
+    let mut layers = Vec::new(alloc);
     for line in block.lines() {
-        let Line::Limits { low, high } = read(line)? else {
+        let Line::Limits { low, high } = line.parse::<Line>()? else {
             continue;
         };
+        // A refusal is printed and the block goes on, so it is no error for `?`.
         match DailyLimits::new(low, high) {
-            Ok(limits) => layers = layers.with(limits)?,
+            Ok(limits) => {
+                ensure!(layers.len() < 2, "a block has three layers");
+                layers.push(limits)?;
+            }
             Err(refusal) => refused(rt, refusal)?,
         }
     }
     Ok(layers)
 }
 
-// Lays the limits of the block over its tunnel.
-fn lay<T: Tunnel + Drop>(rt: &HostRuntime, tunnel: T, block: &str) -> anyhow::Result<()> {
-    match layers_of(rt, block)? {
-        Layers::None => answer(rt, tunnel, block),
-        Layers::One(limits) => answer(rt, limits.over(tunnel), block),
-        Layers::Two(below, above) => answer(rt, above.over(below.over(tunnel)), block),
+// Carries out the block over its tunnel, with its limits laid over it, or tells why there is no tunnel.
+fn run_over<T: Tunnel + Drop>(
+    rt: &impl Print,
+    alloc: Global,
+    tunnel: Result<T, Refusal>,
+    block: &str,
+) -> anyhow::Result<()> {
+    // A refusal is printed and is no error, so `?` does not fit.
+    let tunnel = match tunnel {
+        Ok(tunnel) => tunnel,
+        Err(refusal) => return refused(rt, refusal),
+    };
+    match layers_of(rt, alloc, block)?.as_slice() {
+        [] => answer(rt, tunnel, block),
+        [limits] => answer(rt, limits.over(tunnel), block),
+        [below, above, ..] => answer(rt, above.over(below.over(tunnel)), block),
     }
 }
 
-fn band_tunnel(tick: u32, bands: [i32; 6]) -> Result<BandTunnel, Refusal> {
-    let buy = Band::new(bands[0], bands[1])?;
-    let sell = Band::new(bands[2], bands[3])?;
-    let auction = Band::new(bands[4], bands[5])?;
-    BandTunnel::new(tick, buy, sell, auction)
+fn band_tunnel(tick: u32, bands: [(i32, i32); 3]) -> Result<BandTunnel, Refusal> {
+    let [buy, sell, auction] = bands;
+    BandTunnel::new(
+        tick,
+        Band::new(buy.0, buy.1)?,
+        Band::new(sell.0, sell.1)?,
+        Band::new(auction.0, auction.1)?,
+    )
 }
 
-fn run_block(rt: &HostRuntime, block: &str) -> anyhow::Result<()> {
+fn run_block(rt: &impl Print, alloc: Global, block: &str) -> anyhow::Result<()> {
     let Some(first) = block.lines().next() else {
         return Ok(());
     };
-    match read(first)? {
-        Line::Band { tick, bands } => match band_tunnel(tick, bands) {
-            Ok(tunnel) => lay(rt, tunnel, block),
-            Err(refusal) => refused(rt, refusal),
-        },
+    match first.parse::<Line>()? {
+        Line::Band { tick, bands } => run_over(rt, alloc, band_tunnel(tick, bands), block),
         Line::Mean {
             tick,
             half_width,
             settlement,
-        } => match MeanTunnel::new(tick, half_width, settlement) {
-            Ok(tunnel) => lay(rt, tunnel, block),
-            Err(refusal) => refused(rt, refusal),
-        },
-        Line::Last { width, first } => lay(rt, LastPriceTunnel::new(width, first), block),
-        _ => Err(anyhow!("a block begins with no tunnel")),
+        } => run_over(
+            rt,
+            alloc,
+            MeanTunnel::new(tick, half_width, settlement),
+            block,
+        ),
+        Line::Last { width, first } => {
+            run_over(rt, alloc, Ok(LastPriceTunnel::new(width, first)), block)
+        }
+        _ => bail!("a block begins with no tunnel"),
     }
-}
-
-fn run(rt: &HostRuntime) -> anyhow::Result<()> {
-    let mut script = String::new(rt.alloc());
-    rt.stdin().read_to_string(&mut script)?;
-    for block in script.as_str().split("\n\n") {
-        run_block(rt, block)?;
-    }
-    Ok(())
 }
 
 fn main(rt: HostRuntime) -> anyhow::Result<()> {
-    run(&rt)
+    let mut script = String::new(rt.alloc());
+    rt.stdin().read_to_string(&mut script)?;
+    for block in script.as_str().split("\n\n") {
+        run_block(&rt, rt.alloc(), block)?;
+    }
+    Ok(())
 }

@@ -3,7 +3,7 @@ ghost use Rattle.std.specs.Prelude.{◌≡◌, if◌then◌else◌};
 ghost use Rattle.tunnel.specs.Ranges.{asked, every_price_range};
 ghost use Rattle.tunnel.specs.Trades.{counts, tallied};
 ghost use Rattle.ranges.specs.Outside.{beside};
-ghost use Rattle.std.proofs.Common.{rules};
+ghost use Rattle.std.proofs.Common.{rules, tests};
 
 use tunnel::{NO_PRICE, ToldTrade, Tunnel, askable, every_price};
 
@@ -16,7 +16,9 @@ pub(crate) struct LastPriceTunnel {
 
 impl LastPriceTunnel {
     pub(crate) fn new(width: u32, first: u32) -> LastPriceTunnel
-        ensures { (result.width ≡ width) × (result.last ≡ first) × (result.tally ≡ 0) }
+        ensures width { result.width ≡ width }
+        ensures last { result.last ≡ first }
+        ensures tally { result.tally ≡ 0 }
     {
         LastPriceTunnel {
             width,
@@ -26,6 +28,8 @@ impl LastPriceTunnel {
     }
 }
 
+// An outside maker's tunnel shares no code with the kinds, so its day start and its tally are its own.
+// Buy and sell orders have one range, so that two methods of the trait are the same call.
 impl Tunnel for LastPriceTunnel {
     ghost tally = { λ t. t.tally };
 
@@ -45,7 +49,7 @@ impl Tunnel for LastPriceTunnel {
 
     ghost told_trade_adds_its_quantity = { Prim.search rules };
 
-    ghost other_trade_leaves_the_tally = { Prim.search rules };
+    ghost other_trade_leaves_the_tally = { Prim.search (rules, tests) };
 
     ghost other_trade_leaves_the_ranges = { Prim.search rules };
 
@@ -65,8 +69,8 @@ impl Tunnel for LastPriceTunnel {
         if !askable(base, second) {
             return NO_PRICE;
         }
-        let last = self.last as i64;
-        let width = self.width as i64;
+        let last = i64::from(self.last);
+        let width = i64::from(self.width);
         (last - width, last + width)
     }
 
@@ -76,7 +80,7 @@ impl Tunnel for LastPriceTunnel {
 
     fn tell(&mut self, trade: ToldTrade) {
         if trade.counts(self.tally) {
-            self.tally += trade.quantity as u64;
+            self.tally += u64::from(trade.quantity);
             self.last = trade.price;
         }
     }

@@ -1,3 +1,1 @@
 pub mod Telling
-pub mod Counting
-pub mod Ends

@@ -1,5 +1,5 @@
 -- The trades that a tunnel is told, and which of them count. Assumes nothing.
-use Rattle.std.specs.Prelude.{◌≡◌, ℕ, ◌+◌, Bool, cond, ◌&&◌, T, List, [], ◌∷◌, nat_le}
+use Rattle.std.specs.Prelude.{◌≡◌, ℕ, ◌+◌, Bool, IsTrue, if◌then◌else◌, ◌&&◌, List, [], ◌∷◌, nat_le, sum_by}
 use Rattle.rules.specs.Limits.{greatest_price, greatest_second, greatest_quantity, greatest_tally}
 use Rattle.tunnel.specs.declared.trade.ToldTrade.{ToldTrade}
 
@@ -9,16 +9,16 @@ counts tally x =
     nat_le 1 x.price && nat_le x.price greatest_price && nat_le 1 x.quantity && nat_le x.quantity greatest_quantity && nat_le x.second greatest_second && nat_le (tally + x.quantity) greatest_tally
 
 abbrev pub Counts : ℕ → ToldTrade → Type 0
-Counts tally x = T (counts tally x)
+Counts tally x = IsTrue (counts tally x)
 
 -- the tally after a trade was told
 abbrev pub tallied : ℕ → ToldTrade → ℕ
-tallied tally x = cond (counts tally x) (tally + x.quantity) tally
+tallied tally x = if counts tally x then tally + x.quantity else tally
 
 -- of the trades, told in this order from a tally on, those that count
 abbrev pub counting : ℕ → List ToldTrade → List ToldTrade
 counting tally [] = []
-counting tally (x ∷ xs) = cond (counts tally x) (x ∷ counting (tally + x.quantity) xs) (counting tally xs)
+counting tally (x ∷ xs) = if counts tally x then x ∷ counting (tally + x.quantity) xs else counting tally xs
 
 -- the trades `ys`, told in this order after `xs`, as a list with the trade last told first
 abbrev pub newest_first : List ToldTrade → List ToldTrade → List ToldTrade
@@ -27,8 +27,7 @@ newest_first (y ∷ ys) xs = newest_first ys (y ∷ xs)
 
 -- the sum of their quantities
 abbrev pub quantity_of : List ToldTrade → ℕ
-quantity_of [] = 0
-quantity_of (x ∷ xs) = x.quantity + quantity_of xs
+quantity_of = sum_by (λ x. x.quantity)
 
 -- telling the trades, one after another, leads from `t` to `u`; `tells` is the tunnel's rule for one trade
 abbrev pub Told : {A : Type 0} → (A → ToldTrade → A → Type 0) → A → List ToldTrade → A → Type 0

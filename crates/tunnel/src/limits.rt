@@ -5,16 +5,17 @@ ghost use Rattle.tunnel.specs.Ranges.{askable, asked, every_price_range};
 use rules::{GREATEST_PRICE, GREATEST_SECOND};
 
 // The answer to a question outside the limits, a range that no price is inside of: in specs/Ranges.antt, `no_price`.
+// It is a pair and no Option, since docs/RULES.md answers every question with two numbers.
 pub const NO_PRICE: (i64, i64) = (1, 0);
 
-// The range that every price is inside of: in specs/Ranges.antt, `every_price_range`.
+// The range that every price is inside of: in specs/Ranges.antt, `every_price_range`. By `as`: From is no const fn.
 pub const EVERY_PRICE: (i64, i64) = (1, GREATEST_PRICE as i64);
 
 // Whether base price and second of a question are within their limits.
 pub fn askable(base: u32, second: u32) -> bool
     ensures { result ≡ askable base second }
 {
-    1 <= base && base <= GREATEST_PRICE && second <= GREATEST_SECOND
+    (1..=GREATEST_PRICE).contains(&base) && second <= GREATEST_SECOND
 }
 
 // The answer of a tunnel that turns no price away.

@@ -8,6 +8,7 @@ use crate::trade::ToldTrade;
 
 // A tunnel tells which prices a buy order, a sell order and a trade may have, and is told the trades.
 // A market knows of it what stands here and nothing else, so that it works over any implementation.
+// A question is its base price and its second, and a range its two ends, as plain numbers: makers outside implement the trait.
 pub trait Tunnel {
     // The quantity of the trades that counted since the day's start.
     ghost tally: { Self → ℕ };
@@ -51,13 +52,13 @@ pub trait Tunnel {
     fn tell(&mut self, trade: ToldTrade)
         ensures { tells self.old trade self.new };
 
-    ghost no_price_outside_limits: { (t : Self) (base second : ℕ) → (Askable base second → ⊥) → (buying t base second ≡ no_price) × (selling t base second ≡ no_price) × (auction t base second ≡ no_price) };
+    ghost no_price_outside_limits: { (t : Self) (base second : ℕ) → ¬ Askable base second → (buying t base second ≡ no_price) × (selling t base second ≡ no_price) × (auction t base second ≡ no_price) };
 
     ghost day_starts_at_zero: { (t u : Self) → starts t u → tally u ≡ 0 };
 
     ghost told_trade_adds_its_quantity: { (t : Self) (trade : ToldTrade) (u : Self) → tells t trade u → Counts (tally t) trade → tally u ≡ tally t + trade.quantity };
 
-    ghost other_trade_leaves_the_tally: { (t : Self) (trade : ToldTrade) (u : Self) → tells t trade u → (Counts (tally t) trade → ⊥) → tally u ≡ tally t };
+    ghost other_trade_leaves_the_tally: { (t : Self) (trade : ToldTrade) (u : Self) → tells t trade u → ¬ Counts (tally t) trade → tally u ≡ tally t };
 
-    ghost other_trade_leaves_the_ranges: { (t : Self) (trade : ToldTrade) (u : Self) → tells t trade u → (Counts (tally t) trade → ⊥) → (base second : ℕ) → (buying u base second ≡ buying t base second) × (selling u base second ≡ selling t base second) × (auction u base second ≡ auction t base second) };
+    ghost other_trade_leaves_the_ranges: { (t : Self) (trade : ToldTrade) (u : Self) → tells t trade u → ¬ Counts (tally t) trade → (base second : ℕ) → (buying u base second ≡ buying t base second) × (selling u base second ≡ selling t base second) × (auction u base second ≡ auction t base second) };
 }

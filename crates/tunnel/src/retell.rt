@@ -16,11 +16,12 @@ pub fn retell<T: Tunnel>(tunnel: &mut T, trades: &[ToldTrade])
 }
 
 // Tells the trades in their order.
+#[tactic(auto, using(crate::proofs::Telling::told_next))]
 fn tell_all<T: Tunnel>(tunnel: &mut T, trades: &[ToldTrade])
     ensures told { Told T.Tunnel.tells tunnel.old trades.now tunnel.new }
     ensures tally_is_what_counted { TallyIsWhatCounted T.Tunnel.tally T.Tunnel.starts T.Tunnel.tells }
 {
-    for trade in trades {
-        tunnel.tell(*trade);
+    for &trade in trades {
+        tunnel.tell(trade);
     }
 }

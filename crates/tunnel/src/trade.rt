@@ -18,11 +18,9 @@ impl ToldTrade {
     pub fn counts(self, tally: u64) -> bool
         ensures { result ≡ counts tally self }
     {
-        1 <= self.price
-            && self.price <= GREATEST_PRICE
-            && 1 <= self.quantity
-            && self.quantity <= GREATEST_QUANTITY
+        (1..=GREATEST_PRICE).contains(&self.price)
+            && (1..=GREATEST_QUANTITY).contains(&self.quantity)
             && self.second <= GREATEST_SECOND
-            && self.quantity as u64 <= GREATEST_TALLY.saturating_sub(tally)
+            && u64::from(self.quantity) <= GREATEST_TALLY.saturating_sub(tally)
     }
 }

@@ -1,29 +1,13 @@
-use Rattle.std.proofs.Common.{ℕ, ◌+◌, List, ◌∷◌, refl, rules}
+use Rattle.std.proofs.Common.{◌∷◌, ◌∙◌, ap, refl, rules}
 use mathlib.Core.Logic.{∥∥₁_map}
-use Rattle.tunnel.specs.declared.trade.ToldTrade.{ToldTrade}
-use Rattle.mean.specs.Summaries.{fraction, Remembers}
-use Rattle.mean.specs.declared.summary.Summary.{Summary}
-use Rattle.mean.proofs.Centres.{grown_by}
+use Rattle.mean.specs.Averages.{together, totals}
+use Rattle.mean.proofs.Centres.{grown}
 use Rattle.mean.proofs.summary.Summary.plus.Goals as goal
 
--- the summary that is answered
-abbrev after : goal.After-centre → Summary
-after c = record {
-  tally = c.args.self.tally + c.args.trade.quantity;
-  period = c.max.result;
-  current = c.plus.result;
-  centre = c.centre.result;
-  last = c.args.trade.price;
-}
+pub returns-clause-remembers : goal.returns-clause-remembers
+returns-clause-remembers c = λ settlement told r.
+    let same = ap (together (totals c.args.self.current)) c.of-traded.ensures in
+    grown settlement c.args.self _ c.args.trade told r (search rules) c.max.ensures (λ h. c.told_with.ensures.latest h ∙ same) (search rules) c.centre.ensures refl
 
-kept : (c : goal.After-centre) (settlement : ℕ) (told : List ToldTrade) → Remembers settlement c.args.self told → Remembers settlement (after c) (c.args.trade ∷ told)
-kept c settlement told r =
-    grown_by settlement c.args.self (after c) c.args.trade told (fraction c.told_in.result) r refl c.centre.ensures.centre refl c.max.ensures c.told_in.ensures.latest c.told_in.ensures.later c.plus.ensures.value c.plus.ensures.quantity
-
-pub returns : goal.returns
-returns c = record {
-  sound = ((search rules, search rules), c.plus.ensures.priced, c.centre.ensures.priced.0, (c.centre.ensures.priced.1, search rules));
-  tally = refl;
-  remembers = kept c;
-  some = λ settlement some. ∥∥₁_map some (λ p. (c.args.trade ∷ p.0, kept c settlement p.0 p.1));
-}
+pub returns-clause-some : goal.returns-clause-some
+returns-clause-some c = λ settlement some. ∥∥₁_map some (λ p. (c.args.trade ∷ p.0, returns-clause-remembers c settlement p.0 p.1))

@@ -1,0 +1,13 @@
+-- What a layer of limits makes of the ranges below.
+use Rattle.std.proofs.Common.{◌≡◌, ℕ, rules, tests}
+use Rattle.tunnel.specs.Ranges.{Range, Askable, no_price}
+use Rattle.daily.specs.Narrowing.{limited}
+use Rattle.daily.specs.declared.limits.DailyLimits.{DailyLimits}
+
+-- outside the limits of a question the layer answers what is below
+pub not_limited : (limits : DailyLimits) (base second : ℕ) (below : Range) → ¬ Askable base second → below ≡ no_price → limited limits base second below ≡ no_price
+not_limited limits base second below out e = search (rules, tests)
+
+-- the same limits over the same range
+pub same_limited : (l k : DailyLimits) (base second : ℕ) (below other : Range) → l ≡ k → below ≡ other → limited l base second below ≡ limited k base second other
+same_limited l k base second below other e f = λ i. limited (e i) base second (f i)
