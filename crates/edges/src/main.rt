@@ -1,6 +1,9 @@
 // Lists each tape of the bundle on standard input: a row of tapes, each behind its length in four bytes.
 #![tactic(auto)]
 
+ghost use Rattle.std.specs.Prelude.{◌<◌, length, IfSome};
+ghost use Rattle.std.specs.Iterator.{at_most};
+
 use anyhow::anyhow;
 use std::io::{Read, Write};
 use tape::listing::listing;
@@ -8,32 +11,44 @@ use tape::listing::listing;
 #[cfg(test)]
 mod tests;
 
-// The next tape of the bundle, and what follows it.
-fn next_tape(bundle: &[u8]) -> Option<(&[u8], &[u8])> {
-    let [a, b, c, d, rest @ ..] = bundle else {
-        return None;
-    };
-    let length = u32::from_be_bytes([*a, *b, *c, *d]) as usize;
-    if length > rest.len() {
-        return None;
+// The first tape of a bundle, and what follows it.
+fn split_tape(bundle: &[u8]) -> Option<(&[u8], &[u8])>
+    ensures { IfSome result (λ parts. length parts.1.now < length bundle.now) }
+{
+    let (length, rest) = bundle.split_first_chunk::<4>()?;
+    // By `as`: there is no From of a u32 for a usize.
+    rest.split_at_checked(u32::from_be_bytes(*length) as usize)
+}
+
+// The tapes of a bundle, and an error at the end where the bundle is cut short.
+#[derive(Drop)]
+struct Tapes<'a> {
+    bundle: &'a [u8],
+}
+
+impl<'a> Iterator for Tapes<'a> {
+    type Item = anyhow::Result<&'a [u8]>;
+
+    ghost remaining = { λ tapes. at_most (length tapes.bundle.now) };
+
+    fn next(&mut self) -> Option<anyhow::Result<&'a [u8]>> {
+        if self.bundle.is_empty() {
+            return None;
+        }
+        let Some((tape, rest)) = split_tape(self.bundle) else {
+            self.bundle = &[];
+            return Some(Err(anyhow!("the bundle is cut short")));
+        };
+        self.bundle = rest;
+        Some(Ok(tape))
     }
-    Some(rest.split_at(length))
 }
 
 fn list_all(rt: &HostRuntime, bundle: &[u8]) -> anyhow::Result<()> {
-    let mut rest = bundle;
-    // Each tape takes four bytes of the bundle at least.
-    for number in 0..bundle.len() {
-        let Some((tape, behind)) = next_tape(rest) else {
-            break;
-        };
-        let text = listing(rt.alloc(), tape)?;
+    for (number, tape) in (Tapes { bundle }).enumerate() {
+        let text = listing(rt.alloc(), tape?)?;
         println!(rt; "-- {number}")?;
         rt.stdout().write_all(text.as_slice())?;
-        rest = behind;
-    }
-    if !rest.is_empty() {
-        return Err(anyhow!("the bundle is cut short"));
     }
     Ok(())
 }

@@ -1,6 +1,6 @@
 // The public calls of the tape, at their edges.
 use records::{Bands, Clock, Entry, Group, Record};
-use rules::Refusal;
+use rules::{Refusal, Trade};
 use std::process::Abort;
 use std::test::Fail;
 use tape::{ENOUGH_ROOM, Reader, lines, write};
@@ -116,7 +116,13 @@ fn lines_of_text(rt: HostRuntime) {
     holds(&rt, b"in 1000000\n", answer, &out);
     let answer = lines::accepted(&mut out);
     holds(&rt, b"ok\n", answer, &out);
-    let answer = lines::traded(3, 1, 1010, 2, &mut out);
+    let trade = Trade {
+        buy: 3,
+        sell: 1,
+        price: 1010,
+        quantity: 2,
+    };
+    let answer = lines::traded(trade, &mut out);
     holds(&rt, b"trade 3 1 1010 2\n", answer, &out);
     let answer = lines::auction_started(0, &mut out);
     holds(&rt, b"auction 0\n", answer, &out);

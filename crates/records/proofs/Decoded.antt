@@ -1,17 +1,17 @@
 -- A record can be told from the bytes that spell it. Assumes nothing.
-use Rattle.std.proofs.Common.{◌≡◌, ℕ, ◌^◌, ◌<◌, List, ◌++◌, length, get_or, take, drop, ℤ, sym, refl, ap, ◌∙◌, subst, lit<, w32, SFits, to_z, of_z}
+use Rattle.std.proofs.Common.{◌≡◌, ℕ, ◌^◌, ◌<◌, List, ◌++◌, length, get_or, take, drop, ℤ, sym, refl, ap, ◌∙◌, w32, rules, SFits, to_z, of_z}
 use mir.Facts.{Fits-of_z}
 use Rattle.std.specs.List.{flat_map}
 use Rattle.std.specs.Int.Digits.{number_from_digits}
 use Rattle.std.proofs.lemmas.List.{take_at}
 use Rattle.std.proofs.lemmas.Int.{to_z-of_z}
 use Rattle.records.specs.Bytes.{big_endian}
-use Rattle.records.specs.Records.{RecordFits, body, fields_of, kind_of, length_of, spelled, spelling}
+use Rattle.records.specs.Records.{RecordFits, body, fields_of, kind_of, spelled, spelling}
 use Rattle.records.specs.declared.Kind.{Kind}
 use Rattle.records.specs.declared.Kind.TheVariants as kind
 use Rattle.records.specs.declared.Record.{Record}
 use Rattle.records.specs.declared.Record.TheVariants as rec
-use Rattle.records.proofs.Letters.{same_kind, body_length}
+use Rattle.records.proofs.Letters.{same_kind}
 use Rattle.records.proofs.Numbers.{number_spelled}
 
 -- the number in k bytes from place i
@@ -79,17 +79,8 @@ decoded_back (rec.Cancellation x) h = λ i. rec.Cancellation (record { member = 
 decoded_back rec.AuctionCall h = refl
 decoded_back (rec.Clock t) h = λ i. rec.Clock (record { second = four t.second h.0 i; draw = two t.draw h.1.0 i })
 
-small_kind : (k : Kind) → length_of k < 256 ^ 2
-small_kind kind.Group = lit< tt
-small_kind kind.Buy = lit< tt
-small_kind kind.Sell = lit< tt
-small_kind kind.Amendment = lit< tt
-small_kind kind.Cancellation = lit< tt
-small_kind kind.AuctionCall = lit< tt
-small_kind kind.Clock = lit< tt
-
 pub small : (r : Record) → length (body r) < 256 ^ 2
-small r = subst (λ n. n < 256 ^ 2) (sym (body_length r)) (small_kind (kind_of r))
+small r = search rules
 
 -- a tape that begins with the spelling of one record does not begin with that of another
 module _ (r s : Record) (after other : List ℕ) (same : spelling r ++ after ≡ spelling s ++ other) where

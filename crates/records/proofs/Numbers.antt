@@ -1,10 +1,10 @@
 -- Numbers and the bytes that spell them. Assumes nothing.
-use Rattle.std.proofs.Common.{◌≡◌, ℕ, zero, suc, ◌+◌, ◌-◌, ◌*◌, ◌/◌, ◌%◌, ◌^◌, ◌<◌, ◌≤◌, List, [], ◌∷◌, ◌++◌, length, get_or, take, drop, sym, refl, ap, ◌∙◌, pow-suc, add-one, arith, take-append-drop}
+use Rattle.std.proofs.Common.{◌≡◌, ℕ, zero, suc, ◌+◌, ◌*◌, ◌/◌, ◌%◌, ◌^◌, ◌<◌, ◌≤◌, List, [], ◌∷◌, ◌++◌, length, get_or, take, sym, refl, ap, ◌∙◌, pow-suc, add-one, arith}
 use native.Mathlib.Nat.{pow-zero}
 use Rattle.std.specs.Int.Digits.{number_from_digits}
 use Rattle.std.proofs.lemmas.Nat.{div_below}
 use Rattle.std.proofs.lemmas.Int.Digits.{number_push, number_more}
-use Rattle.std.proofs.lemmas.List.{take_more, take_rest}
+use Rattle.std.proofs.lemmas.List.{take_more}
 use Rattle.records.specs.Bytes.{big_endian}
 
 -- every element is a byte
@@ -32,18 +32,3 @@ number_spelled (suc k) n h =
     let below : n < 256 ^ k * 256 = omega (arith, pow-suc 256 k) in
     let front = number_spelled k (n / 256) (div_below n 256 (256 ^ k) (omega arith) below) in
     number_push 256 (big_endian k (n / 256)) (n % 256) ∙ omega (arith, front)
-
--- the bytes are what spells the number of the first k, and the rest, `&bytes[k..]`
-pub front : (k : ℕ) (bs : List ℕ) (n : ℕ) → Bytes bs → k ≤ length bs → n ≡ number_from_digits 256 (take k bs) → bs ≡ big_endian k n ++ take (length bs - k) (drop k bs)
-front k bs n h l e =
-    sym (take-append-drop k bs) ∙ ap (λ l. l ++ drop k bs) (sym (spelled_number k bs h l)) ∙ ap (λ m. big_endian k m ++ drop k bs) (sym e)
-    ∙ ap (λ l. big_endian k n ++ l) (sym (take_rest bs k))
-
-pub number_one : (bs : List ℕ) → 1 ≤ length bs → number_from_digits 256 (take 1 bs) ≡ get_or bs 0 0
-number_one bs l = omega (arith, number_more 256 bs 0 l)
-
-pub number_two : (bs : List ℕ) → 2 ≤ length bs → number_from_digits 256 (take 2 bs) ≡ get_or bs 0 0 * 256 + get_or bs 1 0
-number_two bs l = omega (arith, number_one bs (omega arith), number_more 256 bs 1 l)
-
-pub number_four : (bs : List ℕ) → 4 ≤ length bs → number_from_digits 256 (take 4 bs) ≡ get_or bs 0 0 * 16777216 + get_or bs 1 0 * 65536 + get_or bs 2 0 * 256 + get_or bs 3 0
-number_four bs l = omega (arith, number_two bs (omega arith), number_more 256 bs 2 (omega arith), number_more 256 bs 3 l)

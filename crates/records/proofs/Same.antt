@@ -1,13 +1,15 @@
 -- The derived comparisons tell whether two values are the same. Assumes nothing.
-use Rattle.std.proofs.Common.{◌≡◌, Decides, Bool, refl, ap, rules}
+use Rattle.std.proofs.Common.{◌≡◌, Decides, refl, ap, rules}
 use Rattle.std.proofs.lemmas.Bool.Decides.{Decides-eqb, Decides-int_eq, Decides-and, Decides-like}
 use Rattle.records.specs.declared.Amendment.{Amendment}
 use Rattle.records.specs.declared.Bands.{Bands}
 use Rattle.records.specs.declared.Cancellation.{Cancellation}
 use Rattle.records.specs.declared.Clock.{Clock}
 use Rattle.records.specs.declared.Entry.{Entry}
+use Rattle.records.specs.declared.Field.{Field}
 use Rattle.records.specs.declared.Group.{Group}
 use Rattle.records.specs.declared.Kind.{Kind}
+use Rattle.records.specs.declared.NoSuchLetter.{NoSuchLetter}
 use Rattle.records.specs.declared.Record.{Record}
 use Rattle.records.specs.declared.Record.TheVariants as rec
 use Rattle.records.specs.contracts.AmendmentPartialEq.TheImpl as amendment_eq
@@ -15,8 +17,10 @@ use Rattle.records.specs.contracts.BandsPartialEq.TheImpl as bands_eq
 use Rattle.records.specs.contracts.CancellationPartialEq.TheImpl as cancellation_eq
 use Rattle.records.specs.contracts.ClockPartialEq.TheImpl as clock_eq
 use Rattle.records.specs.contracts.EntryPartialEq.TheImpl as entry_eq
+use Rattle.records.specs.contracts.FieldPartialEq.TheImpl as field_eq
 use Rattle.records.specs.contracts.GroupPartialEq.TheImpl as group_eq
 use Rattle.records.specs.contracts.KindPartialEq.TheImpl as kind_eq
+use Rattle.records.specs.contracts.NoSuchLetterPartialEq.TheImpl as no_such_letter_eq
 use Rattle.records.specs.contracts.RecordPartialEq.TheImpl as record_eq
 
 pub bands_decided : (x y : Bands) → Decides ((bands_eq.ghosts).eq x y) (x ≡ y)
@@ -47,6 +51,12 @@ clock_decided x y = search rules
 
 pub kind_decided : (x y : Kind) → Decides ((kind_eq.ghosts).eq x y) (x ≡ y)
 kind_decided x y = search rules
+
+pub no_such_letter_decided : (x y : NoSuchLetter) → Decides ((no_such_letter_eq.ghosts).eq x y) (x ≡ y)
+no_such_letter_decided x y = search rules
+
+pub field_decided : (x y : Field) → Decides ((field_eq.ghosts).eq x y) (x ≡ y)
+field_decided x y = search rules
 
 pub record_decided : (x y : Record) → Decides ((record_eq.ghosts).eq x y) (x ≡ y)
 record_decided (rec.Group x) (rec.Group y) = Decides-like _ (λ e. ap (λ g. rec.Group g) e) (λ e. cc) (group_decided x y)

@@ -1,5 +1,5 @@
 -- How a record is spelled on the tape. Assumes nothing.
-use Rattle.std.specs.Prelude.{ℕ, ◌^◌, ◌<◌, List, [], ◌∷◌, ◌++◌, length, FitsSigned}
+use Rattle.std.specs.Prelude.{ℕ, ◌^◌, ◌<◌, List, [], ◌∷◌, ◌++◌, length, FitsSigned, ◌≡◌, ◌≢◌, Result, MatchResult}
 use Rattle.std.specs.Int.{cast_unsigned, w32}
 use Rattle.std.specs.List.{flat_map, AllByRecursion}
 use Rattle.records.specs.Bytes.{big_endian}
@@ -8,6 +8,7 @@ use Rattle.records.specs.declared.Field.{Field}
 use Rattle.records.specs.declared.Field.TheVariants.{Byte, Two, Four, Band, Form}
 use Rattle.records.specs.declared.Kind.{Kind}
 use Rattle.records.specs.declared.Kind.TheVariants as kind
+use Rattle.records.specs.declared.NoSuchLetter.{NoSuchLetter}
 use Rattle.records.specs.declared.Record.{Record}
 use Rattle.records.specs.declared.Record.TheVariants as rec
 
@@ -20,6 +21,10 @@ letter_of kind.Amendment = 65
 letter_of kind.Cancellation = 88
 letter_of kind.AuctionCall = 76
 letter_of kind.Clock = 84
+
+-- the answer is the kind with this letter, or an error with a letter that no kind has
+abbrev pub IsKindOfLetter : ℕ → Result Kind NoSuchLetter → Type 0
+IsKindOfLetter letter answer = MatchResult answer (λ k. letter_of k ≡ letter) (λ e. (e.0 ≡ letter) × ((k : Kind) → letter_of k ≢ letter))
 
 abbrev pub kind_of : Record → Kind
 kind_of (rec.Group g) = kind.Group

@@ -1,8 +1,13 @@
 // The records of a session tape, with fields as wide as the tape has them.
 #![tactic(auto)]
 
-ghost use Rattle.std.specs.Prelude.{◌≡◌, ◌≤◌, length, take, MatchOption, ◌≢◌};
-ghost use Rattle.records.specs.Records.{body, fields_of, kind_of, letter_of, length_of, most_fields, RecordFits};
+ghost use Rattle.std.specs.Prelude.{◌≡◌, ◌≤◌, ◌++◌, length, codes, decimal, Some};
+ghost use Rattle.records.specs.Records.{body, fields_of, kind_of, letter_of, length_of, most_fields, IsKindOfLetter, RecordFits};
+ghost use Rattle.arrayvec.specs.ArrayVec.{array_vec_len};
+
+use arrayvec::ArrayVec;
+use std::error::Error;
+use std::fmt;
 
 // The kinds of record, each with its letter on the tape.
 #[derive(Clone, Copy, PartialEq, Eq, Debug)]
@@ -16,6 +21,10 @@ pub enum Kind {
     Clock = b'T' as isize,
 }
 
+// A byte that is the letter of no kind.
+#[derive(Clone, Copy, PartialEq, Eq, Debug)]
+pub struct NoSuchLetter(pub u8);
+
 // The ends of the three ranges, as distances from the base price.
 #[derive(Clone, Copy, PartialEq, Eq, Debug)]
 pub struct Bands {
@@ -28,7 +37,8 @@ pub struct Bands {
 }
 
 // The group sheet and the tunnel. `liquid` is 1 for a liquid group and 0 for a less liquid one,
-// and `form` is the letter of the tunnel's kind; the tape carries any byte in either.
+// and `form` is the letter of the tunnel's kind.
+// Both are bytes: the tape carries any byte in either, and it is written back as it was read.
 #[derive(Clone, Copy, PartialEq, Eq, Debug)]
 pub struct Group {
     pub tick: u32,
@@ -83,7 +93,7 @@ pub enum Record {
 }
 
 // A field of a record: a plain number of one, two or four bytes, a band, or the letter of a form.
-#[derive(Clone, Copy)]
+#[derive(Clone, Copy, PartialEq, Eq, Debug)]
 pub enum Field {
     Byte(u8),
     Two(u16),
@@ -92,38 +102,29 @@ pub enum Field {
     Form(u8),
 }
 
+// What an unused place of a row of fields holds.
+impl Default for Field {
+    ghost use Rattle.records.specs.declared.Field.TheVariants.{Byte};
+
+    ghost is_default = { λ field. field ≡ Byte 0 };
+
+    fn default() -> Field {
+        Field::Byte(0)
+    }
+}
+
 // No record has more fields than the group's: in specs/Records.antt, `most_fields`.
 pub const MOST_FIELDS: usize = 11;
 
-// The fields of a record in the tape's order: the first `count` of `items`.
-#[derive(Clone, Copy)]
-pub struct Fields {
-    pub items: [Field; MOST_FIELDS],
-    pub count: usize,
-}
+// The fields of a record in the tape's order, with no heap.
+pub type Fields = ArrayVec<Field, MOST_FIELDS>;
 
 impl Kind {
-    // The letter that stands for the kind on the tape.
+    // The letter that stands for the kind on the tape. A kind has a length too, so a name tells more than `u8::from`.
     pub fn letter(self) -> u8
         ensures { result ≡ letter_of self }
     {
         self as u8
-    }
-
-    // The kind that a letter of the tape stands for.
-    pub fn of_letter(letter: u8) -> Option<Kind>
-        ensures { MatchOption result ((k : Kind) → letter_of k ≢ letter) (λ k. letter_of k ≡ letter) }
-    {
-        match char::from(letter) {
-            'G' => Some(Kind::Group),
-            'B' => Some(Kind::Buy),
-            'S' => Some(Kind::Sell),
-            'A' => Some(Kind::Amendment),
-            'X' => Some(Kind::Cancellation),
-            'L' => Some(Kind::AuctionCall),
-            'T' => Some(Kind::Clock),
-            _ => None,
-        }
     }
 
     // The length that a record of the kind has on the tape, without the two bytes that tell it.
@@ -140,6 +141,36 @@ impl Kind {
         }
     }
 }
+
+impl TryFrom<u8> for Kind {
+    type Error = NoSuchLetter;
+
+    ghost try_from_gives = { IsKindOfLetter };
+
+    // The kind that a letter of the tape stands for.
+    fn try_from(letter: u8) -> Result<Kind, NoSuchLetter> {
+        match char::from(letter) {
+            'G' => Ok(Kind::Group),
+            'B' => Ok(Kind::Buy),
+            'S' => Ok(Kind::Sell),
+            'A' => Ok(Kind::Amendment),
+            'X' => Ok(Kind::Cancellation),
+            'L' => Ok(Kind::AuctionCall),
+            'T' => Ok(Kind::Clock),
+            _ => Err(NoSuchLetter(letter)),
+        }
+    }
+}
+
+impl fmt::Display for NoSuchLetter {
+    ghost output = { λ error. Some (codes "no kind of record has the letter " ++ decimal error.0) };
+
+    fn fmt<W: fmt::Write>(&self, f: &mut fmt::Formatter<W>) -> fmt::Result {
+        write!(f, "no kind of record has the letter {}", self.0)
+    }
+}
+
+impl Error for NoSuchLetter {}
 
 impl Record {
     pub fn kind(&self) -> Kind
@@ -158,34 +189,31 @@ impl Record {
 
     // The fields in the tape's order.
     pub fn fields(self) -> Fields
-        ensures count { result.count ≤ most_fields }
-        ensures items { take result.count result.items ≡ fields_of self }
+        ensures count { array_vec_len result ≤ most_fields }
+        ensures items { result.items ≡ fields_of self }
         ensures fits { RecordFits self }
     {
         match self {
-            Record::Group(g) => Fields::of(&g.fields()),
-            Record::Buy(e) | Record::Sell(e) => Fields::of(&e.fields()),
-            Record::Amendment(a) => Fields::of(&a.fields()),
-            Record::Cancellation(x) => Fields::of(&[Field::Two(x.member), Field::Four(x.number)]),
-            Record::AuctionCall => Fields::of(&[]),
-            Record::Clock(t) => Fields::of(&[Field::Four(t.second), Field::Two(t.draw)]),
+            Record::Group(g) => Fields::from(g.fields()),
+            Record::Buy(e) | Record::Sell(e) => row(&e.fields()),
+            Record::Amendment(a) => row(&a.fields()),
+            Record::Cancellation(x) => row(&[Field::Two(x.member), Field::Four(x.number)]),
+            Record::AuctionCall => Fields::new(),
+            Record::Clock(t) => row(&[Field::Four(t.second), Field::Two(t.draw)]),
         }
     }
 }
 
-impl Fields {
-    // The row of these fields.
-    fn of(fields: &[Field]) -> Fields
-        requires { length fields.now ≤ most_fields }
-        ensures count { result.count ≡ length fields.now }
-        ensures items { take result.count result.items ≡ fields.now }
-    {
-        let count = fields.len();
-        let mut items = [Field::Byte(0); MOST_FIELDS];
-        items[0..count].copy_from_slice(fields);
-        Fields { items, count }
-    }
+// The row of these fields.
+fn row(fields: &[Field]) -> Fields
+    requires { length fields.now ≤ most_fields }
+    ensures count { array_vec_len result ≤ most_fields }
+    ensures items { result.items ≡ fields.now }
+{
+    Fields::try_from(fields).unwrap()
 }
+
+// Each of these lists the fields of its own struct, in the tape's order.
 
 impl Entry {
     fn fields(self) -> [Field; 3]

@@ -1,11 +1,11 @@
 -- The laws of tapes and records. Assumes nothing.
-use Rattle.std.proofs.Common.{◌≡◌, ℕ, ◌+◌, ◌-◌, ◌≤◌, List, [], ◌∷◌, ◌++◌, length, get_or, take, drop, Some, None, Ok, Err, Option, Result, sym, refl, ap, ◌∙◌, subst, inl, inr, arith, length-append, take-add}
+use Rattle.std.proofs.Common.{◌≡◌, ℕ, ◌+◌, ◌-◌, ◌≤◌, List, [], ◌∷◌, ◌++◌, length, get_or, take, drop, Some, None, Ok, Err, Option, Result, sym, refl, ap, ◌∙◌, arith, rules, take-add}
 use Rattle.std.specs.Int.Digits.{number_from_digits}
 use Rattle.std.proofs.lemmas.List.{drop_all, drop_at, take_at, take_all, flat_map_more, drop-drop}
 use Rattle.rules.specs.declared.refusal.Refusal.{Refusal}
 use Rattle.tape.specs.Laws.{OnlyAnswer, ReadsBack, SpelledAlone, WritesBack, GoesOn, Reading}
-use Rattle.records.specs.Records.{RecordFits, body, kind_of, letter_of, spelling}
-use Rattle.tape.specs.Tapes.{stated, CutShort, kind_letter, MayStand, NoneOfThisKind, LengthWrong, Faulty, Stands, Reads}
+use Rattle.records.specs.Records.{RecordFits, body, kind_of, spelling}
+use Rattle.tape.specs.Tapes.{stated, MayStand, Faulty, Stands, Reads}
 use Rattle.records.specs.declared.Record.{Record}
 use Rattle.records.proofs.Decoded.{small, same_record}
 use Rattle.records.proofs.Letters.{body_length}
@@ -16,61 +16,42 @@ module _ (rest after : List ℕ) (place : ℕ) (r : Record) (is : rest ≡ spell
   states : stated rest ≡ length (body r)
   states = ap (λ l. number_from_digits 256 (take 2 l)) is ∙ number_spelled 2 (length (body r)) (small r)
 
-  whole : CutShort rest → ⊥
-  whole cut = omega (arith, states, ap length is, length-append (spelling r) after)
-
-  letter : letter_of (kind_of r) ≡ kind_letter rest
-  letter = sym (ap (λ l. get_or l 2 0) is)
-
-  some_kind : NoneOfThisKind place rest → ⊥
-  some_kind (inl none) = omega (arith, states)
-  some_kind (inr no_kind) = no_kind (kind_of r) letter may
-
-  right_length : LengthWrong rest → ⊥
-  right_length wrong = wrong (kind_of r) letter (sym (body_length r) ∙ sym states)
-
   pub no_fault : (e : Refusal) → Faulty rest place e → ⊥
-  no_fault e (inl cut) = whole cut.1
-  no_fault e (inr (inl none)) = some_kind none.2
-  no_fault e (inr (inr wrong)) = right_length wrong.3
+  no_fault e fault =
+      let number = states in
+      let kind_length = body_length r in
+      let long = ap length is in
+      let letter = ap (λ l. get_or l 2 0) is in
+      search rules
 
 pub one_fault : (rest : List ℕ) (place : ℕ) (d e : Refusal) → Faulty rest place d → Faulty rest place e → d ≡ e
-one_fault rest place d e (inl a) (inl b) = a.0 ∙ sym b.0
-one_fault rest place d e (inl a) (inr (inl b)) = absurd (b.1 a.1)
-one_fault rest place d e (inl a) (inr (inr b)) = absurd (b.1 a.1)
-one_fault rest place d e (inr (inl a)) (inl b) = absurd (a.1 b.1)
-one_fault rest place d e (inr (inl a)) (inr (inl b)) = a.0 ∙ sym b.0
-one_fault rest place d e (inr (inl a)) (inr (inr b)) = absurd (b.2 a.2)
-one_fault rest place d e (inr (inr a)) (inl b) = absurd (a.1 b.1)
-one_fault rest place d e (inr (inr a)) (inr (inl b)) = absurd (a.2 b.2)
-one_fault rest place d e (inr (inr a)) (inr (inr b)) = a.0 ∙ sym b.0
+one_fault rest place d e a b = search rules
 
 module _ (tape : List ℕ) (place : ℕ) where
   -- behind the end no record stands
   past_end : (r : Record) (n : ℕ) → length tape ≤ place → Stands tape place r n → ⊥
-  past_end r n past stands = omega (arith, ap length (sym (drop_all place tape past) ∙ stands.3))
+  past_end r n past stands = search (rules, drop_all)
 
   only : (a b : Result (Option Record) Refusal) (m n : ℕ) → Reads tape place a m → Reads tape place b n → (a ≡ b) × (m ≡ n)
-  only (Ok None) (Ok None) m n x y = (refl, x.1 ∙ sym y.1)
-  only (Ok None) (Ok (Some s)) m n x y = absurd (past_end s n x.0 y)
-  only (Ok None) (Err e) m n x y = absurd (omega (arith, x.0, y.0))
-  only (Ok (Some r)) (Ok None) m n x y = absurd (past_end r m y.0 x)
+  only (Ok None) (Ok None) m n x y = search rules
+  only (Ok None) (Ok (Some s)) m n x y = search (rules, past_end)
+  only (Ok None) (Err e) m n x y = search rules
+  only (Ok (Some r)) (Ok None) m n x y = search (rules, past_end)
   only (Ok (Some r)) (Ok (Some s)) m n x y =
       let same : r ≡ s = same_record r s (drop m tape) (drop n tape) (sym x.3 ∙ y.3) x.0 y.0 in
-      (ap (λ q. Ok (Some q)) same, x.2 ∙ ap (λ q. place + length (spelling q)) same ∙ sym y.2)
-  only (Ok (Some r)) (Err e) m n x y = absurd (no_fault (drop place tape) (drop m tape) place r x.3 x.1 e y.1)
-  only (Err d) (Ok None) m n x y = absurd (omega (arith, x.0, y.0))
-  only (Err d) (Ok (Some s)) m n x y = absurd (no_fault (drop place tape) (drop n tape) place s y.3 y.1 d x.1)
-  only (Err d) (Err e) m n x y = (ap (λ f. Err f) (one_fault (drop place tape) place d e x.1 y.1), x.2 ∙ sym y.2)
+      search rules
+  only (Ok (Some r)) (Err e) m n x y = search (rules, no_fault)
+  only (Err d) (Ok None) m n x y = search rules
+  only (Err d) (Ok (Some s)) m n x y = search (rules, no_fault)
+  only (Err d) (Err e) m n x y = search (rules, one_fault)
 
   only_answer : (answer : Result (Option Record) Refusal) (next : ℕ) → Reads tape place answer next → OnlyAnswer tape place answer next
   only_answer answer next reads a n other = only a answer n next other reads
 
   writes_back : (answer : Result (Option Record) Refusal) (next : ℕ) → Reads tape place answer next → WritesBack tape place answer next
-  writes_back answer next reads r e =
-      let stands : Stands tape place r next = subst (λ a. Reads tape place a next) e reads in
-      let passed : length (spelling r) ≡ next - place = omega (arith, stands.2) in
-      ap (take (next - place)) stands.3 ∙ take_at (spelling r) (drop next tape) (next - place) passed
+  writes_back (Ok None) next reads r e = cc
+  writes_back (Ok (Some s)) next reads r e = search (rules, take_at)
+  writes_back (Err d) next reads r e = cc
 
   pub goes_on : (answer : Result (Option Record) Refusal) (next : ℕ) → Reads tape place answer next → GoesOn tape place answer next
   goes_on (Ok None) next reads records so_far = (ap (λ n. take n tape) reads.1 ∙ so_far, λ _. sym (take_all place tape reads.0) ∙ so_far)
@@ -78,9 +59,9 @@ module _ (tape : List ℕ) (place : ℕ) where
       let passed = writes_back (Ok (Some r)) next reads r refl in
       let both : take next tape ≡ take place tape ++ take (next - place) (drop place tape) = ap (λ n. take n tape) (omega (arith, reads.2)) ∙ take-add place (next - place) tape in (
         both ∙ ap (λ l. take place tape ++ l) passed ∙ ap (λ l. l ++ spelling r) so_far ∙ flat_map_more spelling (1 ∷ []) records r,
-        λ e. absurd (let no : ◌≡◌ {A = ℕ} 0 1 = cc in omega arith),
+        λ e. cc,
       )
-  goes_on (Err d) next reads records so_far = (ap (λ n. take n tape) reads.2 ∙ so_far, λ e. absurd (let no : ◌≡◌ {A = ℕ} 0 1 = cc in omega arith))
+  goes_on (Err d) next reads records so_far = (ap (λ n. take n tape) reads.2 ∙ so_far, λ e. cc)
 
   pub reading : (answer : Result (Option Record) Refusal) (next : ℕ) → Reads tape place answer next → Reading tape place answer next
   reading answer next reads = record {

@@ -1,16 +1,16 @@
 -- A listing grows with the reader. Assumes nothing.
-use Rattle.std.proofs.Common.{◌≡◌, ℕ, ◌≤◌, List, [], ◌∷◌, ◌++◌, length, drop, Some, None, Ok, Err, Option, Result, sym, refl, ap, ◌∙◌, subst, arith, length-append, take-append-drop}
+use Rattle.std.proofs.Common.{◌≡◌, ℕ, ◌≤◌, List, [], ◌∷◌, ◌++◌, length, drop, Some, None, Ok, Err, Option, Result, sym, ap, ◌∙◌, subst, arith, rules, length-append, take-append-drop}
 use Rattle.std.specs.List.{flat_map, AllByRecursion}
 use Rattle.std.proofs.ByRecursion.{All-append}
-use Rattle.std.proofs.lemmas.List.{flat_map_more, length-take, length-take-le, length-drop, drop_all}
+use Rattle.std.proofs.lemmas.Grind.{common_steps}
+use Rattle.std.proofs.lemmas.List.{flat_map_more, length-drop, drop_all}
 use Rattle.rules.specs.Refusals.{number}
 use Rattle.rules.specs.declared.refusal.Refusal.{Refusal}
 use Rattle.tape.specs.Lines.{listed_line, tape_refused_line}
 use Rattle.tape.specs.Listings.{GroupFirst, Holds, Listing, place_behind}
 use Rattle.tape.specs.Listings.Listing.{whole, faulty}
-use Rattle.records.specs.Records.{RecordFits, kind_of, spelling}
+use Rattle.records.specs.Records.{RecordFits, kind_of}
 use Rattle.tape.specs.Tapes.{Faulty, MayStand, Reads, ReadUpTo, TooLong}
-use Rattle.records.specs.declared.Kind.TheVariants as kind
 use Rattle.records.specs.declared.Record.{Record}
 use Rattle.tape.proofs.Laws.{goes_on}
 
@@ -25,13 +25,14 @@ pub record Sofar (tape text : List ℕ) (place : ℕ) (records : List Record) : 
 
 -- a record that may stand behind these
 ordered_more : (records : List Record) (r : Record) → GroupFirst records → MayStand (place_behind records) (kind_of r) → GroupFirst (records ++ (r ∷ []))
-ordered_more [] r first may = (may.0 refl, tt)
-ordered_more (x ∷ records) r first may =
-    (first.0, All-append (λ s. kind_of s ≡ kind.Group → ⊥) records (r ∷ []) first.1 (λ g. omega (arith, may.1 g, length-append (spelling x) (flat_map spelling records)), tt))
+ordered_more records r first may = search (rules, All-append, length-append)
 
 module _ (tape text : List ℕ) (place : ℕ) (records : List Record) (sofar : Sofar tape text place records) where
   here : place ≡ place_behind records
-  here = sym (length-take-le place tape sofar.inside) ∙ ap length sofar.read ∙ omega arith
+  here =
+      let long = ap length sofar.read in
+      let inside = sofar.inside in
+      grind (arith, common_steps)
 
   holds : Holds tape records (drop place tape)
   holds = record {
@@ -44,7 +45,10 @@ module _ (tape text : List ℕ) (place : ℕ) (records : List Record) (sofar : S
   pub one_more : (r : Record) (next : ℕ) → Reads tape place (Ok (Some r)) next → Sofar tape (text ++ listed_line r) next (records ++ (r ∷ []))
   one_more r next reads = record {
     read = (goes_on tape place (Ok (Some r)) next reads records sofar.read).0;
-    inside = omega (arith, sofar.inside, reads.2, ap length reads.3, length-append (spelling r) (drop next tape), length-drop place tape, length-drop next tape);
+    inside =
+        let long = ap length reads.3 in
+        let inside = sofar.inside in
+        grind (arith, common_steps);
     fit = All-append RecordFits records (r ∷ []) sofar.fit (reads.0, tt);
     ordered = ordered_more records r sofar.ordered (subst (λ p. MayStand p (kind_of r)) here reads.1);
     short = sofar.short;
@@ -60,9 +64,6 @@ module _ (tape text : List ℕ) (place : ℕ) (records : List Record) (sofar : S
   at_fault e next reads =
       let fault : Faulty (drop place tape) (place_behind records) e = subst (λ p. Faulty (drop place tape) p e) here reads.1 in
       subst (λ t. Listing tape (t ++ tape_refused_line (number e) place)) (sym sofar.listed) (subst (λ p. Listing tape (flat_map listed_line records ++ tape_refused_line (number e) p)) (sym here) (faulty records (drop place tape) e holds (omega (arith, reads.0, length-drop place tape)) fault))
-
-pub none_yet : (tape : List ℕ) → ReadUpTo tape 1 [] → (TooLong tape → ⊥) → Sofar tape [] 1 []
-none_yet tape read short = record { read = read; inside = omega (arith, ap length read, length-take 1 tape); fit = tt; ordered = tt; short = short; listed = refl }
 
 -- what was read, by other names for the tape and the answer
 pub reads_as : {tape other : List ℕ} {a b : Result (Option Record) Refusal} (place next : ℕ) → tape ≡ other → a ≡ b → Reads tape place a next → Reads other place b next

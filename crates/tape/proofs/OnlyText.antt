@@ -1,5 +1,5 @@
 -- A tape has one listing. Assumes nothing.
-use Rattle.std.proofs.Common.{◌≡◌, ℕ, ◌+◌, ◌<◌, ◌⊎◌, List, [], ◌∷◌, ◌++◌, length, take, drop, sym, refl, ap, ◌∙◌, subst, inl, inr, append_assoc, arith, length-append}
+use Rattle.std.proofs.Common.{◌≡◌, ℕ, ◌+◌, ◌<◌, ◌⊎◌, List, [], ◌∷◌, ◌++◌, length, sym, refl, ap, ◌∙◌, subst, inl, inr, append_assoc, arith, rules, length-append}
 use Rattle.std.specs.List.{flat_map, AllByRecursion}
 use Rattle.std.proofs.lemmas.List.{append_cancel_left}
 use Rattle.rules.specs.Refusals.{number}
@@ -10,7 +10,7 @@ use Rattle.records.specs.declared.Record.{Record}
 use Rattle.tape.specs.Lines.{listed_line, tape_refused_line}
 use Rattle.tape.specs.Listings.{GroupFirst, Holds, Listing, TheListing, place_behind}
 use Rattle.tape.specs.Listings.Listing.{unopened, whole, faulty}
-use Rattle.tape.specs.Tapes.{Faulty, MayStand, NotOpened, Versioned}
+use Rattle.tape.specs.Tapes.{Faulty, MayStand, NotOpened}
 use Rattle.records.proofs.Decoded.{same_record}
 use Rattle.tape.proofs.Laws.{no_fault, one_fault}
 
@@ -21,8 +21,7 @@ Placed place (r ∷ records) = MayStand place (kind_of r) × Placed (place + len
 
 later : (records : List Record) (place : ℕ) → 1 < place → AllByRecursion (λ s. kind_of s ≡ kind.Group → ⊥) records → Placed place records
 later [] place past none = tt
-later (r ∷ records) place past none =
-    ((λ first. absurd (omega (arith, first)), λ group. absurd (none.0 group)), later records (place + length (spelling r)) (omega arith) none.1)
+later (r ∷ records) place past none = search (rules, later records)
 
 placed : (records : List Record) → GroupFirst records → Placed 1 records
 placed [] first = tt
@@ -34,9 +33,7 @@ Ends rest place = (rest ≡ []) ⊎ ((e : Refusal) × Faulty rest place e)
 
 -- a record stands where the listing ended
 not_yet : (rest other : List ℕ) (place : ℕ) (s : Record) (records : List Record) → Ends rest place → rest ≡ flat_map spelling (s ∷ records) ++ other → MayStand place (kind_of s) → ⊥
-not_yet rest other place s records (inl none) e may = omega (arith, ap length (sym none ∙ e))
-not_yet rest other place s records (inr (d, fault)) e may =
-    no_fault rest (flat_map spelling records ++ other) place s (e ∙ append_assoc (spelling s) (flat_map spelling records) other) may d fault
+not_yet rest other place s records ends e may = search (rules, no_fault, append_assoc)
 
 same_records : (place : ℕ) (rs ss : List Record) (rest other : List ℕ) → flat_map spelling rs ++ rest ≡ flat_map spelling ss ++ other →
     AllByRecursion RecordFits rs → AllByRecursion RecordFits ss → Placed place rs → Placed place ss → Ends rest (place + length (flat_map spelling rs)) → Ends other (place + length (flat_map spelling ss)) → rs ≡ ss
@@ -56,22 +53,15 @@ same_records place (r ∷ rs) (s ∷ ss) rest other e fr fs pr ps x y =
     ap (λ q. q ∷ rs) same ∙ ap (λ qs. s ∷ qs) (same_records next rs ss rest other behind fr.1 fs.1 pr.1 stands ends ends')
 
 module _ (tape : List ℕ) where
-  opened : (records : List Record) (rest : List ℕ) → Holds tape records rest → Versioned tape
-  opened records rest holds = ap (take 1) holds.spelled
-
   not_both : (records : List Record) (rest : List ℕ) (e : Refusal) → Holds tape records rest → NotOpened tape e → ⊥
-  not_both records rest e holds (inl version) = version.1 (opened records rest holds)
-  not_both records rest e holds (inr long) = holds.short long.2
+  not_both records rest e holds refused = search rules
 
   one_reason : (d e : Refusal) → NotOpened tape d → NotOpened tape e → d ≡ e
-  one_reason d e (inl a) (inl b) = a.0 ∙ sym b.0
-  one_reason d e (inl a) (inr b) = absurd (a.1 b.1)
-  one_reason d e (inr a) (inl b) = absurd (b.1 a.1)
-  one_reason d e (inr a) (inr b) = a.0 ∙ sym b.0
+  one_reason d e x y = search rules
 
   module _ (rs ss : List Record) (rest other : List ℕ) (x : Holds tape rs rest) (y : Holds tape ss other) where
     behind_one : flat_map spelling rs ++ rest ≡ flat_map spelling ss ++ other
-    behind_one = ap (drop 1) (sym x.spelled ∙ y.spelled)
+    behind_one = search rules
 
     held_same : Ends rest (place_behind rs) → Ends other (place_behind ss) → rs ≡ ss
     held_same = same_records 1 rs ss rest other behind_one x.fit y.fit (placed rs x.ordered) (placed ss y.ordered)

@@ -1,6 +1,6 @@
-pub mod Drafts
 pub mod Buffers
 pub mod Lines
 pub mod Tapes
+pub mod Readers
 pub mod Laws
 pub mod Listings

@@ -1,5 +1,5 @@
 -- The lines of text. Assumes nothing.
-use Rattle.std.specs.Prelude.{ℕ, cond, ◌||◌, List, [], ◌∷◌, ◌++◌, codes, decimal, ◌==◌}
+use Rattle.std.specs.Prelude.{ℕ, if◌then◌else◌, ◌||◌, List, [], ◌∷◌, ◌++◌, codes, decimal, ◌==◌}
 use Rattle.std.specs.List.{flat_map}
 use Rattle.std.specs.Fmt.{signed_decimal}
 use Rattle.records.specs.Records.{fields_of, kind_of, letter_of}
@@ -14,9 +14,13 @@ newline = 10 ∷ []
 abbrev pub blank : List ℕ → List ℕ
 blank text = 32 ∷ text
 
--- a word, the numbers in decimal with a blank before each, and the newline
+-- a word, the items as text with a blank before each, and the newline
+abbrev pub line_of : {X : Type 0} → (X → List ℕ) → List ℕ → List X → List ℕ
+line_of text word items = word ++ (flat_map (λ x. blank (text x)) items ++ newline)
+
+-- a word, and the numbers in decimal
 abbrev pub line : List ℕ → List ℕ → List ℕ
-line word numbers = word ++ (flat_map (λ n. blank (decimal n)) numbers ++ newline)
+line = line_of decimal
 
 abbrev pub refused_line : ℕ → List ℕ
 refused_line n = line (codes "refused") (n ∷ [])
@@ -39,7 +43,7 @@ tape_refused_line n place = codes "tape" ++ (blank (decimal n) ++ line (codes " 
 
 -- a form is shown as its letter where it is A or W
 abbrev pub form_shown : ℕ → List ℕ
-form_shown n = cond (n == 65 || n == 87) (n ∷ []) (decimal n)
+form_shown n = if n == 65 || n == 87 then n ∷ [] else decimal n
 
 abbrev pub shown : Field → List ℕ
 shown (Byte n) = decimal n
@@ -48,6 +52,10 @@ shown (Four n) = decimal n
 shown (Band z) = signed_decimal z
 shown (Form n) = form_shown n
 
--- the kind letter, then the fields with a blank before each, and the newline
+-- the longest text of a number or of a field: a number of 64 bits has 20 digits
+abbrev pub longest_item : ℕ
+longest_item = 20
+
+-- the kind letter and the fields
 abbrev pub listed_line : Record → List ℕ
-listed_line r = letter_of (kind_of r) ∷ (flat_map (λ f. blank (shown f)) (fields_of r) ++ newline)
+listed_line r = line_of shown (letter_of (kind_of r) ∷ []) (fields_of r)

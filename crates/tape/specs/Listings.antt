@@ -19,7 +19,7 @@ pub record Holds (tape : List ℕ) (records : List Record) (rest : List ℕ) : T
   pub spelled : tape ≡ version ∷ (flat_map spelling records ++ rest)
   pub fit : AllByRecursion RecordFits records
   pub ordered : GroupFirst records
-  pub short : TooLong tape → ⊥
+  pub short : ¬ TooLong tape
 
 -- the place behind these records
 abbrev pub place_behind : List Record → ℕ

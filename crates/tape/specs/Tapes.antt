@@ -1,5 +1,5 @@
 -- What stands on a tape, and when it is refused. Assumes nothing.
-use Rattle.std.specs.Prelude.{◌≡◌, ℕ, ◌+◌, ◌<◌, ◌≤◌, ◌⊎◌, List, [], ◌∷◌, ◌++◌, length, take, drop, Some, None, Ok, Err, Option, Result, ◌≢◌, slice_index}
+use Rattle.std.specs.Prelude.{◌≡◌, ℕ, ◌+◌, ◌<◌, ◌≤◌, ◌⊎◌, ◌↔◌, List, [], ◌∷◌, ◌++◌, length, take, drop, Some, None, Ok, Err, Option, Result, ◌≢◌, slice_index}
 use Rattle.std.specs.List.{flat_map}
 use Rattle.std.specs.Int.Digits.{number_from_digits}
 use Rattle.rules.specs.Limits.{most_tape_bytes}
@@ -27,7 +27,7 @@ TooLong tape = most_tape_bytes < length tape
 
 -- why a tape is not opened
 abbrev pub NotOpened : List ℕ → Refusal → Type 0
-NotOpened tape e = ((e ≡ refusal.NoVersionByte) × (Versioned tape → ⊥)) ⊎ ((e ≡ refusal.TapeTooLong) × Versioned tape × TooLong tape)
+NotOpened tape e = ((e ≡ refusal.NoVersionByte) × ¬ Versioned tape) ⊎ ((e ≡ refusal.TapeTooLong) × Versioned tape × TooLong tape)
 
 -- Below, `rest` is what the tape holds from the place on where a record should begin.
 
@@ -44,11 +44,11 @@ kind_letter rest = slice_index rest 2
 
 -- the group's record stands first, and no other record does
 abbrev pub MayStand : ℕ → Kind → Type 0
-MayStand place k = (place ≡ first_place → k ≡ kind.Group) × (k ≡ kind.Group → place ≡ first_place)
+MayStand place k = (place ≡ first_place) ↔ (k ≡ kind.Group)
 
 -- length 0, a letter of no kind, a first record that is no group's, or a group's that is not first
 abbrev pub NoneOfThisKind : ℕ → List ℕ → Type 0
-NoneOfThisKind place rest = (stated rest ≡ 0) ⊎ ((k : Kind) → letter_of k ≡ kind_letter rest → MayStand place k → ⊥)
+NoneOfThisKind place rest = (stated rest ≡ 0) ⊎ ((k : Kind) → letter_of k ≡ kind_letter rest → ¬ MayStand place k)
 
 -- no record of this kind has the length
 abbrev pub LengthWrong : List ℕ → Type 0
@@ -58,8 +58,8 @@ LengthWrong rest = (k : Kind) → letter_of k ≡ kind_letter rest → length_of
 abbrev pub Faulty : List ℕ → ℕ → Refusal → Type 0
 Faulty rest place e =
     ((e ≡ refusal.RecordCutShort) × CutShort rest) ⊎
-    (((e ≡ refusal.NoRecordOfThisKindHere) × (CutShort rest → ⊥) × NoneOfThisKind place rest) ⊎
-    ((e ≡ refusal.LengthWrongForKind) × (CutShort rest → ⊥) × (NoneOfThisKind place rest → ⊥) × LengthWrong rest))
+    (((e ≡ refusal.NoRecordOfThisKindHere) × ¬ CutShort rest × NoneOfThisKind place rest) ⊎
+    ((e ≡ refusal.LengthWrongForKind) × ¬ CutShort rest × ¬ NoneOfThisKind place rest × LengthWrong rest))
 
 -- the tape holds the record at the place, and goes on at another
 abbrev pub Stands : List ℕ → ℕ → Record → ℕ → Type 0

@@ -1,128 +1,153 @@
 // The fields of records, read from the bytes that spell them.
 ghost use Rattle.std.specs.Prelude.{◌≡◌, ◌+◌, ◌≤◌, ◌++◌, length};
 ghost use Rattle.std.specs.List.{flat_map};
+ghost use Rattle.records.specs.declared.Field.{Field};
+ghost use Rattle.records.specs.declared.Field.TheVariants.{Byte, Two, Four, Band};
 ghost use Rattle.records.specs.Records.{spelled, fields_of, band_fields, kind_of, length_of, RecordFits};
 
-use records::{Amendment, Bands, Cancellation, Clock, Entry, Field, Group, Kind, Record};
+use records::{Amendment, Bands, Cancellation, Clock, Entry, Group, Kind, Record};
+use std::marker::Model;
 
-// Each of these answers a number from the front of the bytes, and the bytes behind it.
+// A number that the tape spells in `N` bytes.
+trait Number<const N: usize>: Copy {
+    // The number as a field of a record.
+    ghost field: { Self → Field };
 
-fn byte(bytes: &[u8]) -> (u8, &[u8])
-    requires { 1 ≤ length bytes.now }
-    ensures { bytes.now ≡ spelled (Field.Byte result.0) ++ result.1.now }
-{
-    (bytes[0], &bytes[1..])
+    // The number that the bytes spell.
+    fn spelled_by(bytes: &[u8; N]) -> Self
+        ensures { spelled (field result) ≡ bytes.now };
 }
 
-fn two(bytes: &[u8]) -> (u16, &[u8])
-    requires { 2 ≤ length bytes.now }
-    ensures { bytes.now ≡ spelled (Field.Two result.0) ++ result.1.now }
-{
-    (u16::from_be_bytes([bytes[0], bytes[1]]), &bytes[2..])
-}
+impl Number<1> for u8 {
+    ghost field = { Byte };
 
-fn four(bytes: &[u8]) -> (u32, &[u8])
-    requires { 4 ≤ length bytes.now }
-    ensures { bytes.now ≡ spelled (Field.Four result.0) ++ result.1.now }
-{
-    let number = u32::from_be_bytes([bytes[0], bytes[1], bytes[2], bytes[3]]);
-    (number, &bytes[4..])
-}
-
-fn band(bytes: &[u8]) -> (i32, &[u8])
-    requires { 4 ≤ length bytes.now }
-    ensures { bytes.now ≡ spelled (Field.Band result.0) ++ result.1.now }
-{
-    let number = i32::from_be_bytes([bytes[0], bytes[1], bytes[2], bytes[3]]);
-    (number, &bytes[4..])
-}
-
-fn bands(fields: &[u8]) -> Bands
-    requires { length fields.now ≡ 24 }
-    ensures { fields.now ≡ flat_map spelled (band_fields result) }
-{
-    let (buy_low, rest) = band(fields);
-    let (buy_high, rest) = band(rest);
-    let (sell_low, rest) = band(rest);
-    let (sell_high, rest) = band(rest);
-    let (auction_low, rest) = band(rest);
-    let (auction_high, _) = band(rest);
-    Bands {
-        buy_low,
-        buy_high,
-        sell_low,
-        sell_high,
-        auction_low,
-        auction_high,
+    fn spelled_by(bytes: &[u8; 1]) -> u8 {
+        u8::from_be_bytes(*bytes)
     }
 }
 
-fn group(fields: &[u8]) -> Group
-    requires { length fields.now ≡ 38 }
-    ensures { fields.now ≡ flat_map spelled (fields_of (Record.Group result)) }
-{
-    let (tick, rest) = four(fields);
-    let (greatest_quantity, rest) = four(rest);
-    let (liquid, rest) = byte(rest);
-    let (settlement, rest) = four(rest);
-    let (form, rest) = byte(rest);
-    let bands = bands(rest);
-    Group {
-        tick,
-        greatest_quantity,
-        liquid,
-        settlement,
-        form,
-        bands,
+impl Number<2> for u16 {
+    ghost field = { Two };
+
+    fn spelled_by(bytes: &[u8; 2]) -> u16 {
+        u16::from_be_bytes(*bytes)
     }
 }
 
-fn entry(fields: &[u8]) -> Entry
-    requires { length fields.now ≡ 10 }
-    ensures { fields.now ≡ flat_map spelled (fields_of (Record.Buy result)) }
-{
-    let (member, rest) = two(fields);
-    let (price, rest) = four(rest);
-    let (quantity, _) = four(rest);
-    Entry {
-        member,
-        price,
-        quantity,
+impl Number<4> for u32 {
+    ghost field = { Four };
+
+    fn spelled_by(bytes: &[u8; 4]) -> u32 {
+        u32::from_be_bytes(*bytes)
     }
 }
 
-fn amendment(fields: &[u8]) -> Amendment
-    requires { length fields.now ≡ 14 }
-    ensures { fields.now ≡ flat_map spelled (fields_of (Record.Amendment result)) }
-{
-    let (member, rest) = two(fields);
-    let (number, rest) = four(rest);
-    let (price, rest) = four(rest);
-    let (quantity, _) = four(rest);
-    Amendment {
-        member,
-        number,
-        price,
-        quantity,
+impl Number<4> for i32 {
+    ghost field = { Band };
+
+    fn spelled_by(bytes: &[u8; 4]) -> i32 {
+        i32::from_be_bytes(*bytes)
     }
 }
 
-fn cancellation(fields: &[u8]) -> Cancellation
-    requires { length fields.now ≡ 6 }
-    ensures { fields.now ≡ flat_map spelled (fields_of (Record.Cancellation result)) }
-{
-    let (member, rest) = two(fields);
-    let (number, _) = four(rest);
-    Cancellation { member, number }
+// The bytes of the fields that are still to be read.
+#[derive(Drop)]
+struct Unread<'a> {
+    bytes: &'a [u8],
 }
 
-fn clock(fields: &[u8]) -> Clock
-    requires { length fields.now ≡ 6 }
-    ensures { fields.now ≡ flat_map spelled (fields_of (Record.Clock result)) }
-{
-    let (second, rest) = four(fields);
-    let (draw, _) = two(rest);
-    Clock { second, draw }
+// Unread fields are seen as the list of their bytes.
+impl<'a> Model for Unread<'a> {
+    ghost use Rattle.std.specs.Prelude.{ℕ, List};
+
+    ghost Value = { List ℕ };
+
+    ghost view = { λ unread. unread.bytes.now };
+}
+
+impl<'a> Unread<'a> {
+    // The next number.
+    fn next<T: Number<N>, const N: usize>(&mut self) -> T
+        requires { N ≤ length self.old }
+        ensures { self.old ≡ spelled (T.field result) ++ self.new }
+    {
+        let (number, rest) = self.bytes.split_first_chunk::<N>().unwrap();
+        self.bytes = rest;
+        T::spelled_by(number)
+    }
+
+    // Each of these names the fields of its own struct, in the tape's order; what they share is `next`.
+
+    fn bands(&mut self) -> Bands
+        requires { 24 ≤ length self.old }
+        ensures { self.old ≡ flat_map spelled (band_fields result) ++ self.new }
+    {
+        Bands {
+            buy_low: self.next(),
+            buy_high: self.next(),
+            sell_low: self.next(),
+            sell_high: self.next(),
+            auction_low: self.next(),
+            auction_high: self.next(),
+        }
+    }
+
+    fn group(&mut self) -> Group
+        requires { 38 ≤ length self.old }
+        ensures { self.old ≡ flat_map spelled (fields_of (Record.Group result)) ++ self.new }
+    {
+        Group {
+            tick: self.next(),
+            greatest_quantity: self.next(),
+            liquid: self.next(),
+            settlement: self.next(),
+            form: self.next(),
+            bands: self.bands(),
+        }
+    }
+
+    fn entry(&mut self) -> Entry
+        requires { 10 ≤ length self.old }
+        ensures { self.old ≡ flat_map spelled (fields_of (Record.Buy result)) ++ self.new }
+    {
+        Entry {
+            member: self.next(),
+            price: self.next(),
+            quantity: self.next(),
+        }
+    }
+
+    fn amendment(&mut self) -> Amendment
+        requires { 14 ≤ length self.old }
+        ensures { self.old ≡ flat_map spelled (fields_of (Record.Amendment result)) ++ self.new }
+    {
+        Amendment {
+            member: self.next(),
+            number: self.next(),
+            price: self.next(),
+            quantity: self.next(),
+        }
+    }
+
+    fn cancellation(&mut self) -> Cancellation
+        requires { 6 ≤ length self.old }
+        ensures { self.old ≡ flat_map spelled (fields_of (Record.Cancellation result)) ++ self.new }
+    {
+        Cancellation {
+            member: self.next(),
+            number: self.next(),
+        }
+    }
+
+    fn clock(&mut self) -> Clock
+        requires { 6 ≤ length self.old }
+        ensures { self.old ≡ flat_map spelled (fields_of (Record.Clock result)) ++ self.new }
+    {
+        Clock {
+            second: self.next(),
+            draw: self.next(),
+        }
+    }
 }
 
 // The record of that kind whose fields are these bytes.
@@ -132,13 +157,14 @@ pub(crate) fn record(kind: Kind, fields: &[u8]) -> Record
     ensures fields { fields.now ≡ flat_map spelled (fields_of result) }
     ensures fits { RecordFits result }
 {
+    let mut unread = Unread { bytes: fields };
     match kind {
-        Kind::Group => Record::Group(group(fields)),
-        Kind::Buy => Record::Buy(entry(fields)),
-        Kind::Sell => Record::Sell(entry(fields)),
-        Kind::Amendment => Record::Amendment(amendment(fields)),
-        Kind::Cancellation => Record::Cancellation(cancellation(fields)),
+        Kind::Group => Record::Group(unread.group()),
+        Kind::Buy => Record::Buy(unread.entry()),
+        Kind::Sell => Record::Sell(unread.entry()),
+        Kind::Amendment => Record::Amendment(unread.amendment()),
+        Kind::Cancellation => Record::Cancellation(unread.cancellation()),
         Kind::AuctionCall => Record::AuctionCall,
-        Kind::Clock => Record::Clock(clock(fields)),
+        Kind::Clock => Record::Clock(unread.clock()),
     }
 }

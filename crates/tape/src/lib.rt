@@ -1,7 +1,6 @@
 // The session tape: a reader and a writer of its records, and the lines of text that tell what is on it.
 #![tactic(auto)]
 
-mod buffer;
 mod draft;
 mod fields;
 pub mod lines;
@@ -9,6 +8,6 @@ pub mod listing;
 pub mod reader;
 pub mod writer;
 
-pub use buffer::ENOUGH_ROOM;
+pub use draft::ENOUGH_ROOM;
 pub use reader::Reader;
 pub use writer::write;

@@ -1,27 +1,17 @@
 // The listing of a whole tape, as text.
 ghost use Rattle.std.specs.Prelude.{◌≡◌, [], ◌++◌, IfOk, OnOk};
-ghost use Rattle.rules.specs.Refusals.{number};
-ghost use Rattle.tape.specs.Lines.{listed_line, tape_refused_line};
 ghost use Rattle.tape.specs.Listings.{TheListing};
 
+use crate::draft::Draft;
 use crate::lines::{record_draft, tape_draft};
 use crate::reader::Reader;
-use records::Record;
-use rules::Refusal;
 use std::alloc::{AllocError, Global};
 
-// Adds the line of a record.
-fn add_record(text: &mut Vec<u8>, record: &Record) -> Result<(), AllocError>
-    ensures { OnOk result (text.new.items ≡ text.old.items ++ listed_line «record».now) }
+// Adds what was put together in a draft.
+fn add(text: &mut Vec<u8>, draft: &Draft) -> Result<(), AllocError>
+    ensures { OnOk result (text.new.items ≡ text.old.items ++ draft.now) }
 {
-    text.extend_from_slice(record_draft(record).bytes())
-}
-
-// Adds the line that tells a fault and its place.
-fn add_fault(text: &mut Vec<u8>, refusal: Refusal, place: usize) -> Result<(), AllocError>
-    ensures { OnOk result (text.new.items ≡ text.old.items ++ tape_refused_line (number refusal) place) }
-{
-    text.extend_from_slice(tape_draft(refusal, place).bytes())
+    text.extend_from_slice(draft.bytes())
 }
 
 // Adds the listing of a tape to an empty text.
@@ -29,17 +19,16 @@ fn add_listing(text: &mut Vec<u8>, tape: &[u8]) -> Result<(), AllocError>
     requires { text.old.items ≡ [] }
     ensures { OnOk result (TheListing tape.now text.new.items) }
 {
+    // A refusal becomes a line and no error, here and below, so `?` does not fit.
     let mut reader = match Reader::open(tape) {
         Ok(reader) => reader,
-        Err(refusal) => return add_fault(text, refusal, 0),
+        Err(refusal) => return add(text, &tape_draft(refusal, 0)),
     };
     loop {
         match reader.next_record() {
-            Ok(next) => match next {
-                Some(record) => add_record(text, &record)?,
-                None => return Ok(()),
-            },
-            Err(refusal) => return add_fault(text, refusal, reader.place()),
+            Ok(Some(record)) => add(text, &record_draft(&record))?,
+            Ok(None) => return Ok(()),
+            Err(refusal) => return add(text, &tape_draft(refusal, reader.place())),
         }
     }
 }

@@ -1,18 +1,41 @@
 // Writing a record.
-ghost use Rattle.std.specs.Prelude.{◌≡◌};
-ghost use Rattle.tape.specs.Buffers.{Puts};
-ghost use Rattle.tape.specs.Drafts.{drafted};
+ghost use Rattle.std.specs.Prelude.{◌≡◌, ◌+◌, ◌*◌, ◌≤◌, ◌++◌, length};
+ghost use Rattle.std.specs.List.{flat_map};
+ghost use Rattle.tape.specs.Buffers.{Puts, enough_room};
 ghost use Rattle.tape.specs.Laws.{ReadsBack, SpelledAlone};
-ghost use Rattle.records.specs.Records.{spelling};
+ghost use Rattle.records.specs.Records.{spelled, spelling};
 
-use crate::buffer::put;
 use crate::draft::Draft;
-use records::Record;
+use records::{Field, Record};
 use rules::Refusal;
+
+// Adds a field in the bytes that spell it on the tape, four at most.
+fn add_field(draft: &mut Draft, field: Field)
+    requires { length draft.old + 4 ≤ enough_room }
+    ensures bytes { draft.new ≡ draft.old ++ spelled field }
+    ensures bound { length draft.new ≤ length draft.old + 4 }
+{
+    match field {
+        Field::Byte(n) | Field::Form(n) => draft.byte(n),
+        Field::Two(n) => draft.all(&n.to_be_bytes()),
+        Field::Four(n) => draft.all(&n.to_be_bytes()),
+        Field::Band(z) => draft.all(&z.to_be_bytes()),
+    }
+}
+
+// Adds all the fields in the bytes that spell them, with nothing between: a line has a blank before each item.
+fn add_fields(draft: &mut Draft, fields: &[Field])
+    requires { length draft.old + 4 * length fields.now ≤ enough_room }
+    ensures { draft.new ≡ draft.old ++ flat_map spelled fields.now }
+{
+    for field in fields {
+        add_field(draft, *field);
+    }
+}
 
 // The record as it is spelled on the tape.
 fn spelled(record: &Record) -> Draft
-    ensures text { drafted result ≡ spelling «record».now }
+    ensures bytes { result ≡ spelling «record».now }
     ensures read { ReadsBack «record».now }
     ensures alone { SpelledAlone «record».now }
 {
@@ -20,8 +43,7 @@ fn spelled(record: &Record) -> Draft
     let mut draft = Draft::new();
     draft.all(&(kind.length() as u16).to_be_bytes());
     draft.byte(kind.letter());
-    let fields = record.fields();
-    draft.spelled_fields(&fields.items[0..fields.count]);
+    add_fields(&mut draft, record.fields().as_slice());
     draft
 }
 
@@ -31,5 +53,5 @@ pub fn write(record: &Record, out: &mut [u8]) -> Result<usize, Refusal>
     ensures read { ReadsBack «record».now }
     ensures alone { SpelledAlone «record».now }
 {
-    put(spelled(record).bytes(), out)
+    spelled(record).put(out)
 }

@@ -1,35 +1,27 @@
-use Rattle.std.proofs.Common.{sym, refl, ◌∙◌, subst, inl, inr, rules}
-use Rattle.std.proofs.lemmas.Result.{err_from_is_err_and}
-use Rattle.tape.specs.Tapes.{MayStand}
-use Rattle.tape.proofs.Framed.{none_stands, one_stands, length_wrong, spelled_length, spelled_whole}
+use Rattle.std.proofs.Common.{◌+◌, ◌++◌, length, take, drop, sym, refl, ap, ◌∙◌, subst, arith, rules}
+use Rattle.std.proofs.lemmas.List.{take_rest, drop-drop, get_or-drop}
+use Rattle.records.specs.Records.{letter_of, spelling}
+use Rattle.records.proofs.Numbers.{Bytes}
+use Rattle.tape.specs.Tapes.{CutShort, MayStand, stated}
+use Rattle.tape.proofs.Framed.{spelled_length, spelled_whole}
 use Rattle.tape.proofs.reader.record_at.Goals as goal
 
-pub returns-in_err-kind : goal.returns-in_err-kind
-returns-in_err-kind c =
-    let framed = c.in_ok-body.ensures in
-    let told = c.in_err-kind.ensures in
-    let p = err_from_is_err_and c.from_residual-in_err-kind.result c.from_residual-in_err-kind.ensures.1 in
-    rw (p.1, p.2) (inr (inl (told.0, framed.0, none_stands c.args.rest.now c.in_ok-body.body.now framed.0 framed.1 c.args.place told.1)))
-
-pub returns-then-body-length : goal.returns-then-body-length
-returns-then-body-length c =
-    let framed = c.in_ok-body.ensures in
-    let told = c.in_ok-kind.ensures in
-    let k = c.in_ok-kind.kind in
-    let rest = c.args.rest.now in
+pub returns-clause-ok : goal.returns-clause-ok
+returns-clause-ok c =
+    let tape = c.args.tape.now in
+    let place = c.args.place in
+    let rest = drop place tape in
+    let same = take_rest tape place in
     let body = c.in_ok-body.body.now in
-    inr (inr (refl, framed.0, one_stands rest body framed.0 framed.1 k told.0 told.1 c.args.place told.2, length_wrong rest body framed.0 framed.1 k told.0 told.1 (λ e. c.if-body-length.true (e ∙ sym c.length.ensures.value))))
-
-pub returns : goal.returns
-returns c =
-    let framed = c.in_ok-body.ensures in
+    let whole = subst (λ l. CutShort l → ⊥) same c.in_ok-body.ensures.whole in
+    let is = c.in_ok-body.ensures.body ∙ ap (λ l. take (stated l) (drop 2 l)) same in
     let told = c.in_ok-kind.ensures in
-    let k = c.in_ok-kind.kind in
-    let rest = c.args.rest.now in
-    let body = c.in_ok-body.body.now in
-    let read = c.record.ensures in (
-      read.fits,
-      subst (MayStand c.args.place) (sym read.kind) told.2,
-      spelled_length rest body framed.0 framed.1 k told.0 told.1 c.record.result read.kind read.fields,
-      spelled_whole rest body framed.0 framed.1 k told.0 told.1 c.record.result read.kind read.fields (λ i. search rules),
-    )
+    let r = c.record.result in
+    let read = c.record.ensures in
+    let small : Bytes tape = λ i. search rules in
+    let bytes : Bytes rest = λ i. omega (arith, get_or-drop place tape i 0, small (place + i)) in
+    let letter = ap letter_of read.kind ∙ told.letter in
+    let long = spelled_length rest body whole is r told.some letter read.fields in
+    let behind = drop-drop (2 + length body) place tape ∙ ap (λ n. drop (place + n) tape) long in
+    let spelled = spelled_whole rest body whole is r told.some letter read.fields bytes in
+    (read.fits, subst (MayStand place) (sym read.kind) told.stands, refl, spelled ∙ ap (λ l. spelling r ++ l) behind)

@@ -1,9 +1,8 @@
-use Rattle.std.proofs.Common.{rules}
 use Rattle.tape.proofs.Laws.{reads_back, spelled_alone}
 use Rattle.tape.proofs.writer.spelled.Goals as goal
 
-pub returns : goal.returns
-returns c =
-    let r = c.args.record.now in
-    let fits = c.fields-fields.ensures.fits in
-    record { text = search rules; read = reads_back r fits; alone = spelled_alone r fits }
+pub returns-clause-read : goal.returns-clause-read
+returns-clause-read c = reads_back c.args.record.now c.fields.ensures.fits
+
+pub returns-clause-alone : goal.returns-clause-alone
+returns-clause-alone c = spelled_alone c.args.record.now c.fields.ensures.fits
