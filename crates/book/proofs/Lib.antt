@@ -1,3 +1,4 @@
 pub mod Filling
 pub mod Places
 pub mod Shares
+pub mod Sides

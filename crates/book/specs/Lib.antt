@@ -1,4 +1,3 @@
 pub mod Orders
 pub mod Lists
 pub mod Tables
-pub mod Sides

@@ -1,8 +1,8 @@
 -- What a side of the book holds, as a list of orders in rank order, and what calls make of it. Assumes nothing.
-use Rattle.std.specs.Prelude.{◌≡◌, ℕ, ◌-◌, ◌<◌, ◌≤◌, min, Bool, cond, List, [], ◌∷◌, length, get_or, Some, None, sum_by, sum, Option, ◌≢◌, nat_lt, slice_index, slice_index_or, slice_set}
-use Rattle.std.specs.List.{AllWithin, remove}
+use Rattle.std.specs.Prelude.{◌≡◌, ℕ, ◌-◌, ◌<◌, ◌≤◌, min, Bool, if◌then◌else◌, List, [], ◌∷◌, length, Some, None, sum_by, sum, Option, ◌≢◌, nat_lt, slice_index, slice_index_or, slice_set}
+use Rattle.std.specs.List.{All, remove}
 use Rattle.rules.specs.Limits.{most_orders}
-use Rattle.ranked.specs.Ranks.{Pairwise, Ranked}
+use Rattle.ranked.specs.Ranks.{Alike, Pairwise, Ranked}
 use Rattle.book.specs.declared.order.Order.{Order}
 use Rattle.book.specs.Orders.{WithinLimits, lessened}
 
@@ -15,17 +15,17 @@ pub record Sound (before : Order → Order → Bool) (xs : List Order) : Type 0 
   pub few : length xs ≤ most_orders
   pub ranked : Ranked before xs
   pub apart : Pairwise Apart xs
-  pub within : AllWithin WithinLimits xs 0 (length xs)
+  pub within : All WithinLimits xs
 
 -- the order may be put among the others
 pub record Acceptable (xs : List Order) (x : Order) : Type 0 where
   pub within : WithinLimits x
   pub room : length xs < most_orders
-  pub apart : AllWithin (λ y. Apart y x) xs 0 (length xs)
+  pub apart : All (λ y. Apart y x) xs
 
 -- two orders of the same rank have the same stamp
-abbrev pub RanksByStamp : (Order → Order → Type 0) → Type 0
-RanksByStamp alike = (x y : Order) → alike x y → x.stamp ≡ y.stamp
+abbrev pub RanksByStamp : (Order → Order → Bool) → Type 0
+RanksByStamp before = (x y : Order) → Alike before x y → x.stamp ≡ y.stamp
 
 -- an order with less of its quantity has the rank that it had
 abbrev pub KeepsRank : (Order → Order → Bool) → Type 0
@@ -46,7 +46,7 @@ resting xs = sum_by (λ x. x.quantity) xs
 
 -- the order at a place has this much less of its quantity; with nothing left it is gone
 abbrev pub reduced : List Order → ℕ → Order → ℕ → List Order
-reduced xs place x by = cond (nat_lt by x.quantity) (slice_set xs place (lessened x by)) (remove xs place)
+reduced xs place x by = if nat_lt by x.quantity then slice_set xs place (lessened x by) else remove xs place
 
 -- what each order gets of a volume that is given out in rank order: its whole quantity, or what the orders before it leave
 abbrev pub filled : ℕ → List Order → List ℕ
@@ -57,11 +57,11 @@ filled volume (x ∷ xs) = min volume x.quantity ∷ filled (volume - x.quantity
 pub record FilledByRank (volume : ℕ) (xs : List Order) (fills : List ℕ) : Type 0 where
   -- a fill for each order, of no more than its quantity
   pub long : length fills ≡ length xs
-  pub within : (k : ℕ) (d : Order) → k < length xs → slice_index fills k ≤ (get_or xs k d).quantity
+  pub within : (k : ℕ) (d : Order) → k < length xs → slice_index fills k ≤ (slice_index_or xs k d).quantity
   -- the volume is given out, or all that rests if that is less
   pub whole : sum fills ≡ min volume (resting xs)
   -- an order that ranks before one that got something is filled whole
-  pub ranked : (i j : ℕ) (d : Order) → i < j → j < length xs → 0 < slice_index fills j → slice_index fills i ≡ (get_or xs i d).quantity
+  pub ranked : (i j : ℕ) (d : Order) → i < j → j < length xs → 0 < slice_index fills j → slice_index fills i ≡ (slice_index_or xs i d).quantity
 
 -- these are the fills in rank order, and there are no others
 abbrev pub OnlyFills : ℕ → List Order → List ℕ → Type 0
@@ -71,4 +71,4 @@ OnlyFills volume xs fills = FilledByRank volume xs fills × ((others : List ℕ)
 abbrev pub remaining : List Order → List ℕ → List Order
 remaining [] fills = []
 remaining (x ∷ xs) [] = x ∷ xs
-remaining (x ∷ xs) (fill ∷ fills) = cond (nat_lt fill x.quantity) (lessened x fill ∷ remaining xs fills) (remaining xs fills)
+remaining (x ∷ xs) (fill ∷ fills) = if nat_lt fill x.quantity then lessened x fill ∷ remaining xs fills else remaining xs fills

@@ -1,5 +1,5 @@
 -- Orders, and their rank on each side. Assumes nothing.
-use Rattle.std.specs.Prelude.{◌≡◌, ℕ, ◌-◌, Bool, ◌&&◌, ◌||◌, T, ◌==◌, nat_le, nat_lt}
+use Rattle.std.specs.Prelude.{◌≡◌, ℕ, ◌-◌, Bool, ◌&&◌, ◌||◌, IsTrue, ◌==◌, nat_le, nat_lt}
 use Rattle.rules.specs.Limits.{greatest_price, greatest_quantity}
 use Rattle.book.specs.declared.order.Order.{Order}
 
@@ -20,7 +20,7 @@ abbrev pub within_limits : Order → Bool
 within_limits x = nat_le 1 x.price && nat_le x.price greatest_price && nat_le 1 x.quantity && nat_le x.quantity greatest_quantity
 
 abbrev pub WithinLimits : Order → Type 0
-WithinLimits x = T (within_limits x)
+WithinLimits x = IsTrue (within_limits x)
 
 -- the order with this much less of its quantity
 abbrev pub lessened : Order → ℕ → Order

@@ -1,12 +1,9 @@
 // The buy side of the book.
-ghost use Rattle.std.specs.Prelude.{◌≡◌, ◌≤◌, [], length};
-ghost use Rattle.std.specs.List.{AllWithin};
+ghost use Rattle.std.specs.Prelude.{◌≡◌, ◌≤◌, []};
 ghost use Rattle.rules.specs.Limits.{most_orders};
-ghost use Rattle.ranked.specs.Ranks.{Pairwise, Ranked};
-ghost use Rattle.book.specs.Lists.{Apart};
-ghost use Rattle.book.specs.Orders.{WithinLimits, buys_before};
+ghost use Rattle.book.specs.Lists.{Sound};
+ghost use Rattle.book.specs.Orders.{buys_before};
 ghost use Rattle.book.specs.Tables.{held};
-ghost use Rattle.book.specs.Sides.{sound_table};
 
 use crate::order::Order;
 use crate::rank::BuyRank;
@@ -14,13 +11,12 @@ use crate::side::Book;
 use crate::table::OrderTable;
 
 // The buy orders that rest: the higher price first, then the smaller stamp.
+// A rule of the project: each side is a type, with its rank written out in its invariant.
 #[derive(Drop)]
 pub struct BuyBook {
     table: OrderTable,
     ghost few: { table.count ≤ most_orders },
-    ghost ranked: { Ranked buys_before (held table) },
-    ghost apart: { Pairwise Apart (held table) },
-    ghost within: { AllWithin WithinLimits (held table) 0 (length (held table)) },
+    ghost sound: { Sound buys_before (held table) },
 }
 
 impl BuyBook {
@@ -39,7 +35,7 @@ impl Book for BuyBook {
 
     ghost before = { buys_before };
 
-    ghost sound = { λ b. sound_table buys_before b.table b.few b.ranked b.apart b.within };
+    ghost sound = { λ b. b.sound };
 
     fn orders(&self) -> &[Order] {
         self.table.orders()

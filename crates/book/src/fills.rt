@@ -14,6 +14,8 @@ pub(crate) fn fills(orders: &[Order], volume: u32) -> [u32; MOST_ORDERS]
 {
     let mut fills = [0; MOST_ORDERS];
     let mut left = volume;
+    // A rule of the project: a `for` over the ranked orders, with a running remainder.
+    // By place: of an array that a zip of iter_mut wrote, a proof knows no element.
     for (i, order) in orders.iter().enumerate() {
         let fill = left.min(order.quantity);
         fills[i] = fill;
@@ -29,6 +31,7 @@ pub(crate) fn settle(orders: &mut [Order], fills: &[u32; MOST_ORDERS]) -> usize
     ensures fewer { result ≤ length orders.old }
 {
     let mut count = 0;
+    // By index: each turn reads one place of the slice and may write another.
     for i in 0..orders.len() {
         let order = orders[i];
         let fill = fills[i];

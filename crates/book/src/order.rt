@@ -21,9 +21,7 @@ impl Order {
     pub fn within_limits(self) -> bool
         ensures { result ≡ within_limits self }
     {
-        1 <= self.price
-            && self.price <= GREATEST_PRICE
-            && 1 <= self.quantity
-            && self.quantity <= GREATEST_QUANTITY
+        (1..=GREATEST_PRICE).contains(&self.price)
+            && (1..=GREATEST_QUANTITY).contains(&self.quantity)
     }
 }

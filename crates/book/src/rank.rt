@@ -1,10 +1,13 @@
 // The rank of an order on each side.
 ghost use Rattle.std.specs.Prelude.{◌≡◌};
-ghost use Rattle.book.specs.Orders.{SameRank, buys_before, sells_before};
+ghost use Rattle.book.specs.Orders.{buys_before, sells_before};
 ghost use Rattle.std.proofs.Common.{rules};
 
 use crate::order::Order;
 use ranked::Ranking;
+use std::cmp::Reverse;
+
+// The two ranks are the one place where the sides differ.
 
 // The rank of buy orders: the higher price first, then the smaller stamp.
 #[derive(Clone, Copy)]
@@ -15,37 +18,29 @@ pub struct BuyRank;
 pub struct SellRank;
 
 impl Ranking<Order> for BuyRank {
+    type Rank = (Reverse<u32>, u32);
+
+    ghost rank = { λ x. (record { 0 = x.price }, x.stamp) };
+
     ghost before = { buys_before };
 
-    ghost alike = { SameRank };
+    ghost smaller_rank_first = { Prim.search rules };
 
-    ghost one_of_two_comes_first = { Prim.search rules };
-
-    ghost only_one_comes_first = { Prim.search rules };
-
-    ghost neither_of_two_alike = { Prim.search rules };
-
-    ghost transitive = { Prim.search rules };
-
-    fn before(&self, one: &Order, other: &Order) -> bool {
-        one.price > other.price || one.price == other.price && one.stamp < other.stamp
+    fn rank(&self, order: &Order) -> (Reverse<u32>, u32) {
+        (Reverse(order.price), order.stamp)
     }
 }
 
 impl Ranking<Order> for SellRank {
+    type Rank = (u32, u32);
+
+    ghost rank = { λ x. (x.price, x.stamp) };
+
     ghost before = { sells_before };
 
-    ghost alike = { SameRank };
+    ghost smaller_rank_first = { Prim.search rules };
 
-    ghost one_of_two_comes_first = { Prim.search rules };
-
-    ghost only_one_comes_first = { Prim.search rules };
-
-    ghost neither_of_two_alike = { Prim.search rules };
-
-    ghost transitive = { Prim.search rules };
-
-    fn before(&self, one: &Order, other: &Order) -> bool {
-        one.price < other.price || one.price == other.price && one.stamp < other.stamp
+    fn rank(&self, order: &Order) -> (u32, u32) {
+        (order.price, order.stamp)
     }
 }

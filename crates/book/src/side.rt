@@ -1,6 +1,6 @@
 // What each side of the book does.
-ghost use Rattle.std.specs.Prelude.{◌≡◌, ℕ, ◌+◌, ◌-◌, ◌<◌, ◌≤◌, min, Bool, List, ◌++◌, length, take, replicate, MatchOption, ◌≢◌};
-ghost use Rattle.std.specs.List.{AllWithin, insert, remove};
+ghost use Rattle.std.specs.Prelude.{◌≡◌, ℕ, ◌+◌, ◌-◌, ◌<◌, ◌≤◌, min, Bool, List, ◌++◌, length, take, replicate, All, MatchOption, ◌≢◌};
+ghost use Rattle.std.specs.List.{insert, remove};
 ghost use Rattle.rules.specs.Limits.{most_orders};
 ghost use Rattle.ranked.specs.Ranks.{Place};
 ghost use Rattle.book.specs.Lists.{Acceptable, At, OnlyFills, Sound, filled, first, reduced, remaining, resting};
@@ -40,7 +40,7 @@ pub trait Book {
         ensures left { held self.new ≡ remaining (held self.old) (filled volume (held self.old)) }
         ensures resting { resting (held self.new) + min volume (resting (held self.old)) ≡ resting (held self.old) };
 
-    // The order that comes first.
+    // The order that comes first; a rule of the project: an Option.
     fn best(&self) -> Option<Order>
         ensures { result ≡ first (held self.now) }
     {
@@ -49,18 +49,15 @@ pub trait Book {
 
     // The place of the order with this number.
     fn find(&self, number: u32) -> Option<usize>
-        ensures { MatchOption result (AllWithin (λ x. x.number ≢ number) (held self.now) 0 (length (held self.now))) (λ place. (x : Order) × At place (held self.now) x × (x.number ≡ number)) }
+        ensures { MatchOption result (All (λ x. x.number ≢ number) (held self.now)) (λ place. (x : Order) × At place (held self.now) x × (x.number ≡ number)) }
     {
-        let orders = self.orders();
-        for (i, order) in orders.iter().enumerate() {
-            if order.number == number {
-                return Some(i);
-            }
-        }
-        None
+        self.orders()
+            .iter()
+            .position(|order| order.number == number)
     }
 
     // What each order gets of a volume that is given out in rank order, by its place; 0 behind the orders.
+    // A rule of the project: a fixed array by value.
     fn fills(&self, volume: u32) -> [u32; MOST_ORDERS]
         ensures value { result ≡ filled volume (held self.now) ++ replicate (most_orders - length (held self.now)) 0 }
         ensures by_rank { OnlyFills volume (held self.now) (take (length (held self.now)) result) }

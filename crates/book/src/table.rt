@@ -1,6 +1,6 @@
 // A table of orders, which says nothing of their rank.
-ghost use Rattle.std.specs.Prelude.{◌≡◌, ℕ, ◌+◌, ◌-◌, ◌<◌, ◌≤◌, min, Bool, [], length, Decides, MatchOption};
-ghost use Rattle.std.specs.List.{AllWithin, insert, remove};
+ghost use Rattle.std.specs.Prelude.{◌≡◌, ℕ, ◌+◌, ◌-◌, ◌<◌, ◌≤◌, min, Bool, [], length, ◌↔◌, IsTrue, All, MatchOption};
+ghost use Rattle.std.specs.List.{insert, remove};
 ghost use Rattle.rules.specs.Limits.{most_orders};
 ghost use Rattle.ranked.specs.Ranks.{Place};
 ghost use Rattle.book.specs.Lists.{Acceptable, Apart, At, KeepsRank, RanksByStamp, Sound, filled, reduced, remaining, resting};
@@ -13,7 +13,7 @@ use crate::order::Order;
 use ranked::{Ranking, insert, remove};
 use rules::MOST_ORDERS;
 
-// What stands where there is no order.
+// What stands where there is no order. It is no Default of an order: no book takes it.
 const NO_ORDER: Order = Order {
     number: 0,
     stamp: 0,
@@ -23,6 +23,7 @@ const NO_ORDER: Order = Order {
 };
 
 // Room for the orders of one side; those that it holds stand at the front.
+// A rule of the project: a plain table without an invariant, of a fixed array and a count, so each method asks for few orders.
 #[derive(Drop)]
 pub struct OrderTable {
     pub(crate) orders: [Order; MOST_ORDERS],
@@ -44,29 +45,23 @@ impl OrderTable {
         requires { self.now.count ≤ most_orders }
         ensures { result.now ≡ held self.now }
     {
-        &self.orders[0..self.count]
+        &self.orders[..self.count]
     }
 
     // Whether no order that it holds has the number or the stamp of this one.
     fn is_apart(&self, order: Order) -> bool
         requires { self.now.count ≤ most_orders }
-        ensures { Decides result (AllWithin (λ x. Apart x order) (held self.now) 0 (length (held self.now))) }
+        ensures { IsTrue result ↔ All (λ x. Apart x order) (held self.now) }
     {
-        let orders = self.orders();
-        for other in orders {
-            if other.number == order.number || other.stamp == order.stamp {
-                return false;
-            }
-        }
-        true
+        self.orders().iter().all(|other| other.number != order.number && other.stamp != order.stamp)
     }
 
     // Puts an order in by its rank and answers its place; `None` if it may not be put in, and then the table is as it was.
     pub(crate) fn insert<K: Ranking<Order>>(&mut self, ranking: &K, order: Order) -> Option<usize>
         requires { self.old.count ≤ most_orders }
-        ensures answer { MatchOption result ((Acceptable (held self.old) order → ⊥) × (self.new ≡ self.old)) (λ place. Acceptable (held self.old) order × Place K.Ranking.before (held self.old) order place × (held self.new ≡ insert (held self.old) place order)) }
+        ensures answer { MatchOption result ((Acceptable (held self.old) order → ⊥) × (self.new ≡ self.old)) (λ place. Acceptable (held self.old) order × Place K.before (held self.old) order place × (held self.new ≡ insert (held self.old) place order)) }
         ensures few { self.new.count ≤ most_orders }
-        ensures sound { RanksByStamp K.Ranking.alike → Sound K.Ranking.before (held self.old) → Sound K.Ranking.before (held self.new) }
+        ensures sound { RanksByStamp K.before → Sound K.before (held self.old) → Sound K.before (held self.new) }
     {
         if !order.within_limits() || !self.is_apart(order) {
             return None;
@@ -96,21 +91,12 @@ impl OrderTable {
         ensures few { self.new.count ≤ most_orders }
         ensures sound { (before : Order → Order → Bool) → KeepsRank before → Sound before (held self.old) → Sound before (held self.new) }
     {
-        if place >= self.count {
-            return None;
-        }
-        let order = self.orders[place];
-        if by > order.quantity {
-            return None;
-        }
-        let left = order.quantity - by;
+        let order = self.orders().get(place)?;
+        let left = order.quantity.checked_sub(by)?;
         if left == 0 {
             let _ = self.remove(place);
         } else {
-            self.orders[place] = Order {
-                quantity: left,
-                ..order
-            };
+            self.orders[place].quantity = left;
         }
         Some(left)
     }
@@ -124,6 +110,6 @@ impl OrderTable {
         ensures sound { (before : Order → Order → Bool) → KeepsRank before → Sound before (held self.old) → Sound before (held self.new) }
     {
         let fills = fills(self.orders(), volume);
-        self.count = settle(&mut self.orders[0..self.count], &fills);
+        self.count = settle(&mut self.orders[..self.count], &fills);
     }
 }

@@ -1,12 +1,22 @@
 -- The quantity of the orders that count.
-use Rattle.std.proofs.Common.{◌≡◌, ℕ, zero, suc, ◌+◌, ◌<◌, ◌≤◌, Bool, true, false, cond, List, [], ◌∷◌, length, get_or, take, sum, sym, refl, ap, ◌∙◌, inl, ⊎_elim, arith}
-use Rattle.std.proofs.lemmas.List.Sums.{sum_by-cons}
-use Rattle.std.proofs.lemmas.Bool.{cases_Bool, cases_lt, cond-true, cond-false, le-leb, leb-true, leb-false, lt-leb}
+use Rattle.std.proofs.Common.{◌≡◌, ℕ, zero, suc, ◌+◌, ◌<◌, ◌≤◌, Bool, true, false, cond, List, [], ◌∷◌, length, get_or, take, sum, sym, refl, ap, ◌∙◌, inl, ⊎_elim, zero-le, arith}
+use Rattle.std.proofs.lemmas.List.Sums.{sum_by-cons, sum_by-le-sum_by}
+use Rattle.std.proofs.lemmas.Bool.{false≢true, cases_Bool, cases_lt, cond-true, cond-false, le-leb, leb-true, leb-false, lt-leb}
 use Rattle.book.specs.declared.order.Order.{Order}
 use Rattle.book.specs.Lists.{resting}
 use Rattle.book.proofs.Shares.{resting-cons, sum-cons}
 use Rattle.fixing.specs.Prices.{Offered, Candidate}
 use Rattle.fixing.specs.Volumes.{FillsOf, TradesTheMost, buy_counts, counted, demand, sell_counts, supply, volume}
+
+-- what one order counts
+one_le : (b : Bool) (n : ℕ) → cond b n 0 ≤ n
+one_le true n = omega arith
+one_le false n = omega arith
+
+one_le_one : (b c : Bool) (n : ℕ) → (b ≡ true → c ≡ true) → cond b n 0 ≤ cond c n 0
+one_le_one true true n implies = omega arith
+one_le_one true false n implies = absurd (false≢true (implies refl))
+one_le_one false c n implies = zero-le
 
 module _ (counts : Order → Bool) where
   pub counted_yes : (x : Order) (xs : List Order) → counts x ≡ true → counted counts (x ∷ xs) ≡ x.quantity + counted counts xs
@@ -25,12 +35,7 @@ module _ (counts : Order → Bool) where
       counted_yes x xs (inside 0 x (omega arith)) ∙ ap (λ m. x.quantity + m) (counted_front xs n (omega arith) (λ k d lt. inside (suc k) d (omega arith)) (λ k d le lt. behind (suc k) d (omega arith) (omega arith))) ∙ sym (resting-cons x (take n xs))
 
   pub counted_le_resting : (xs : List Order) → counted counts xs ≤ resting xs
-  counted_le_resting [] = omega arith
-  counted_le_resting (x ∷ xs) =
-      ⊎_elim
-      (λ e. omega (arith, counted_yes x xs e, resting-cons x xs, counted_le_resting xs))
-      (λ e. omega (arith, counted_no x xs e, resting-cons x xs, counted_le_resting xs))
-      (cases_Bool (counts x))
+  counted_le_resting xs = sum_by-le-sum_by (λ x. cond (counts x) x.quantity 0) (λ x. x.quantity) xs (λ x. one_le (counts x) x.quantity)
 
   -- fills give no more than what counts
   pub fills_counted : (xs : List Order) (fs : List ℕ) → FillsOf counts xs fs → sum fs ≤ counted counts xs
@@ -51,13 +56,8 @@ module _ (counts : Order → Bool) where
 
 -- if one order counting means that it counts otherwise too, then no less counts otherwise
 pub counted_more : (counts also : Order → Bool) → ((x : Order) → counts x ≡ true → also x ≡ true) → (xs : List Order) → counted counts xs ≤ counted also xs
-counted_more counts also implies [] = omega arith
-counted_more counts also implies (x ∷ xs) =
-    let rest = counted_more counts also implies xs in
-    ⊎_elim
-    (λ e. omega (arith, counted_yes counts x xs e, counted_yes also x xs (implies x e)))
-    (λ e. ⊎_elim (λ e'. omega (arith, counted_no counts x xs e, counted_yes also x xs e')) (λ e'. omega (arith, counted_no counts x xs e, counted_no also x xs e')) (cases_Bool (also x)))
-    (cases_Bool (counts x))
+counted_more counts also implies xs =
+    sum_by-le-sum_by (λ x. cond (counts x) x.quantity 0) (λ x. cond (also x) x.quantity 0) xs (λ x. one_le_one (counts x) (also x) x.quantity (implies x))
 
 -- demand falls and supply rises with the price
 pub demand_falls : (p q : ℕ) → p ≤ q → (xs : List Order) → demand q xs ≤ demand p xs

@@ -9,7 +9,7 @@ use Rattle.ranked.proofs.Orders.{pairwise_head, pairwise_tail}
 use Rattle.book.specs.declared.order.Order.{Order}
 use Rattle.book.specs.Lists.{Apart}
 use Rattle.book.proofs.Shares.{sum-cons}
-use Rattle.fixing.specs.declared.trade.Trade.{Trade}
+use Rattle.rules.specs.declared.trade.Trade.{Trade}
 use Rattle.fixing.specs.Trades.{Dealt, gets, traded}
 
 module _ (side : Trade → ℕ) where

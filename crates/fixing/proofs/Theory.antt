@@ -1,13 +1,13 @@
 -- The theoretical result is the one that the best offer gives, and it trades the most.
-use Rattle.std.proofs.Common.{◌≡◌, ℕ, ◌<◌, ◌≤◌, min, List, ℤ, pos, ◌-ℤ◌, Some, None, Option, sym, refl, ap, ◌∙◌, subst, inl, ⊎_elim, arith}
+use Rattle.std.proofs.Common.{◌≡◌, ℕ, ◌<◌, ◌≤◌, min, List, ℤ, pos, ◌-ℤ◌, Some, None, Option, sym, refl, ap, ◌∙◌, inl, ⊎_elim, arith, MatchOption}
 use Rattle.std.proofs.lemmas.Bool.{cases_lt}
 use Rattle.book.specs.declared.order.Order.{Order}
 use Rattle.fixing.specs.declared.offer.Offer.{Offer}
 use Rattle.fixing.specs.declared.theoretical.Theoretical.{Theoretical}
 use Rattle.fixing.specs.Prices.{Better, Candidate, FixingPrice, IsTheoretical, OnlyTheoretical}
 use Rattle.fixing.specs.Results.{TakenFrom, no_price}
-use Rattle.fixing.specs.Volumes.{TradesTheMost, demand, leftover, supply, volume}
-use Rattle.fixing.specs.Walks.{IsOffer}
+use Rattle.fixing.specs.Volumes.{TradesTheMost, leftover, volume}
+use Rattle.fixing.specs.Walks.{BestOf, IsOffer}
 use Rattle.fixing.proofs.Counting.{trades_the_most}
 use Rattle.fixing.proofs.Preference.{better_total}
 
@@ -17,10 +17,6 @@ same_result p q v w l m a b c =
     let step' : ◌≡◌ {A = Theoretical} (record { price = q; volume = v; leftover = l }) (record { price = q; volume = w; leftover = l }) = ap (λ x. record { price = q; volume = x; leftover = l }) b in
     let step'' : ◌≡◌ {A = Theoretical} (record { price = q; volume = w; leftover = l }) (record { price = q; volume = w; leftover = m }) = ap (λ x. record { price = q; volume = w; leftover = x }) c in
     step ∙ step' ∙ step''
-
--- what holds of the orders of both sides holds of them under another name
-pub over_same : (P : List Order → List Order → Type 0) {xs xs' ys ys' : List Order} → xs ≡ xs' → ys ≡ ys' → P xs ys → P xs' ys'
-over_same P {xs} {xs'} {ys} {ys'} e f h = subst (λ l. P l ys') e (subst (λ l. P xs l) f h)
 
 module _ (buys sells : List Order) (base : ℕ) where
   -- where nothing trades at any candidate, there is no price
@@ -79,5 +75,9 @@ module _ (buys sells : List Order) (base : ℕ) where
         rw (taken.nothing e) (no_price_is all, no_price_only all, no_price_most all))
         (cases_lt 0 (min o.demand o.supply))
 
-    pub offer_bound : (most : ℕ) → demand o.price buys ≤ most → supply o.price sells ≤ most → (o.demand ≤ most) × (o.supply ≤ most)
-    offer_bound most le le' = (omega (arith, of.demand), omega (arith, of.supply))
+  -- the promises of the result that is taken from the best offer, if there is one
+  pub promises_of_best : (best : Option Offer) (r : Theoretical) → BestOf buys sells base best → MatchOption best (r ≡ no_price) (λ o. TakenFrom o r) → IsTheoretical buys sells base r × OnlyTheoretical buys sells base r × TradesTheMost buys sells r.volume
+  promises_of_best None r none e =
+      let all : (p : ℕ) → Candidate buys sells p → volume buys sells p ≡ 0 = λ p candidate. absurd (none p candidate) in
+      rw e (no_price_is all, no_price_only all, no_price_most all)
+  promises_of_best (Some o) r (of, best) taken = promises o of best r taken

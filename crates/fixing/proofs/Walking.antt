@@ -1,6 +1,8 @@
 -- The walk over the prices of both sides: each step goes to the next price, and the best offer stays the best.
-use Rattle.std.proofs.Common.{◌≡◌, ℕ, ◌+◌, ◌-◌, ◌<◌, ◌≤◌, ◌⊎◌, List, length, get_or, Some, None, Option, sym, ap, ◌∙◌, subst, inl, inr, ⊎_elim, arith, MatchOption}
-use Rattle.std.proofs.lemmas.List.{get_or_default}
+use Rattle.std.proofs.Common.{◌≡◌, ℕ, ◌+◌, ◌-◌, ◌<◌, ◌≤◌, ◌⊎◌, List, length, get_or, take, Some, None, Option, sym, ap, ◌∙◌, subst, inl, inr, ⊎_elim, arith, MatchOption}
+use Rattle.std.proofs.lemmas.List.{get_or_default, get_or-take, length-take-le}
+use Rattle.std.proofs.lemmas.Option.{get_or_from_slice_get, slice_get-get_or, slice_get_within}
+use Rattle.std.specs.List.{slice_get}
 use Rattle.std.proofs.lemmas.Bool.{cases_lt, le-leb, lt-leb, leb-true, leb-false}
 use Rattle.ranked.specs.Ranks.{Ranked}
 use Rattle.book.specs.declared.order.Order.{Order}
@@ -28,6 +30,21 @@ lowest_left buys sells above below price d ranked ranked' fits buy sell is =
           let same = ap (λ (x : Order). x.price) (get_or_default sells below f d (omega arith)) in
           omega (arith, sells_rise sells ranked' below k f low lt, sell (omega arith));
     }
+
+-- the last order of a front of a side, and that the front has none
+pub last_there : (xs : List Order) (n : ℕ) (x d : Order) → n ≤ length xs → slice_get (take n xs) (length (take n xs) - 1) ≡ Some x → (0 < n) × (get_or xs (n - 1) d ≡ x)
+last_there xs n x d fits e =
+    let long : length (take n xs) ≡ n = length-take-le n xs fits in
+    let some : 0 < n = omega (arith, slice_get_within (take n xs) (length (take n xs) - 1) x e) in
+    (some, sym (get_or-take n xs (n - 1) d (omega arith)) ∙ ap (λ k. get_or (take n xs) (k - 1) d) (sym long) ∙ get_or_from_slice_get (take n xs) (length (take n xs) - 1) x d e)
+
+pub last_missing : (xs : List Order) (n : ℕ) → n ≤ length xs → slice_get (take n xs) (length (take n xs) - 1) ≡ None → n ≡ 0
+last_missing xs n fits e =
+    let long : length (take n xs) ≡ n = length-take-le n xs fits in
+    ⊎_elim
+    (λ (some : 0 < n). let there = slice_get-get_or (take n xs) (length (take n xs) - 1) no_order (omega arith) in absurd cc)
+    (λ (none : n ≤ 0). omega arith)
+    (cases_lt 0 n)
 
 module _ (buys sells : List Order) (base price next : ℕ) (above below : Front)
     (buyers : Counts (buy_counts (price + 1)) buys above) (sellers : Counts (sell_counts price) sells below)

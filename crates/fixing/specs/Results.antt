@@ -1,11 +1,7 @@
 -- The theoretical result at the best offer. Assumes nothing.
-use Rattle.std.specs.Prelude.{◌≡◌, ◌<◌, ◌≤◌, min, pos, ◌-ℤ◌, Some, None}
+use Rattle.std.specs.Prelude.{◌≡◌, ◌<◌, min, pos, ◌-ℤ◌, Some, None}
 use Rattle.fixing.specs.declared.offer.Offer.{Offer}
 use Rattle.fixing.specs.declared.theoretical.Theoretical.{Theoretical}
-
--- demand and supply of a sound book fit a signed number
-abbrev pub Bounded : Offer → Type 0
-Bounded o = (o.demand ≤ 2_560_000) × (o.supply ≤ 2_560_000)
 
 -- nothing trades
 abbrev pub no_price : Theoretical

@@ -3,7 +3,7 @@ use Rattle.std.specs.Prelude.{◌≡◌, ℕ, ◌≤◌, cond, List, [], ◌∷�
 use Rattle.std.specs.List.{AllByRecursion}
 use Rattle.ranked.specs.Ranks.{Pairwise}
 use Rattle.book.specs.declared.order.Order.{Order}
-use Rattle.fixing.specs.declared.trade.Trade.{Trade}
+use Rattle.rules.specs.declared.trade.Trade.{Trade}
 
 -- the number of the order on one side of a trade
 abbrev pub buyer : Trade → ℕ

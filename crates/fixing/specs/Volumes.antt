@@ -1,5 +1,6 @@
 -- What could be traded at a price. `buys` and `sells` are the orders of the two sides. Assumes nothing.
-use Rattle.std.specs.Prelude.{◌≡◌, ℕ, ◌+◌, ◌-◌, ◌<◌, ◌≤◌, min, Bool, false, cond, List, length, get_or, ℤ, pos, ◌-ℤ◌, sum_by, sum, nat_le, slice_index, slice_index_or}
+use Rattle.std.specs.Prelude.{◌≡◌, ℕ, ◌+◌, ◌-◌, ◌*◌, ◌<◌, ◌≤◌, min, Bool, false, if◌then◌else◌, List, length, ℤ, pos, ◌-ℤ◌, sum_by, sum, nat_le, slice_index, slice_index_or}
+use Rattle.rules.specs.Limits.{greatest_quantity, most_orders}
 use Rattle.book.specs.declared.order.Order.{Order}
 
 -- a buy order counts at its price and below it
@@ -12,7 +13,7 @@ sell_counts price x = nat_le x.price price
 
 -- the quantity of the orders that count
 abbrev pub counted : (Order → Bool) → List Order → ℕ
-counted counts xs = sum_by (λ x. cond (counts x) x.quantity 0) xs
+counted counts xs = sum_by (λ x. if counts x then x.quantity else 0) xs
 
 -- D: the quantity of the buy orders at this price or above it
 abbrev pub demand : ℕ → List Order → ℕ
@@ -28,6 +29,10 @@ volume buys sells price = min (demand price buys) (supply price sells)
 abbrev pub leftover : List Order → List Order → ℕ → ℤ
 leftover buys sells price = pos (demand price buys) -ℤ pos (supply price sells)
 
+-- no side has more than this: as many orders as it may, of the greatest quantity
+abbrev pub most_resting : ℕ
+most_resting = most_orders * greatest_quantity
+
 -- how far apart two numbers are
 abbrev pub distance : ℕ → ℕ → ℕ
 distance m n = (m - n) + (n - m)
@@ -39,7 +44,7 @@ imbalance buys sells price = distance (demand price buys) (supply price sells)
 -- fills of one side: a quantity for each order, at most its own, and 0 for an order that does not count
 pub record FillsOf (counts : Order → Bool) (xs : List Order) (fills : List ℕ) : Type 0 where
   pub long : length fills ≡ length xs
-  pub within : (k : ℕ) (d : Order) → k < length xs → slice_index fills k ≤ (get_or xs k d).quantity
+  pub within : (k : ℕ) (d : Order) → k < length xs → slice_index fills k ≤ (slice_index_or xs k d).quantity
   pub none : (k : ℕ) (d : Order) → k < length xs → counts (slice_index_or xs k d) ≡ false → slice_index fills k ≡ 0
 
 -- fills of both sides at a price, which come to the same quantity

@@ -1,5 +1,5 @@
 -- A walk over the prices of both sides, from the lowest up. Assumes nothing.
-use Rattle.std.specs.Prelude.{◌≡◌, ℕ, ◌+◌, ◌<◌, ◌≤◌, min, Bool, true, false, ◌⊎◌, List, length, get_or, Option, MatchOption, slice_index_or}
+use Rattle.std.specs.Prelude.{◌≡◌, ℕ, ◌+◌, ◌<◌, ◌≤◌, min, Bool, true, false, ◌⊎◌, List, length, Option, MatchOption, slice_index_or}
 use Rattle.book.specs.declared.order.Order.{Order}
 use Rattle.fixing.specs.declared.offer.Offer.{Offer}
 use Rattle.fixing.specs.declared.walk.Front.{Front}
@@ -36,9 +36,9 @@ BestOf buys sells base best =
 
 -- the lowest price of the first `above` buy orders and of the sell orders from `below` on
 pub record LowestLeft (buys sells : List Order) (above below price : ℕ) : Type 0 where
-  pub left : ((k : ℕ) × (k < above) × ((d : Order) → (get_or buys k d).price ≡ price)) ⊎ ((k : ℕ) × (below ≤ k) × (k < length sells) × ((d : Order) → (get_or sells k d).price ≡ price))
-  pub buyers : (k : ℕ) (d : Order) → k < above → price ≤ (get_or buys k d).price
-  pub sellers : (k : ℕ) (d : Order) → below ≤ k → k < length sells → price ≤ (get_or sells k d).price
+  pub left : ((k : ℕ) × (k < above) × ((d : Order) → (slice_index_or buys k d).price ≡ price)) ⊎ ((k : ℕ) × (below ≤ k) × (k < length sells) × ((d : Order) → (slice_index_or sells k d).price ≡ price))
+  pub buyers : (k : ℕ) (d : Order) → k < above → price ≤ (slice_index_or buys k d).price
+  pub sellers : (k : ℕ) (d : Order) → below ≤ k → k < length sells → price ≤ (slice_index_or sells k d).price
 
 -- the walk has come past this price: what is above it on the buy side, and not above it on the sell side
 pub record WalkedTo (buys sells : List Order) (base price : ℕ) (above below : Front) (best : Option Offer) : Type 0 where

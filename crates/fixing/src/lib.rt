@@ -3,8 +3,6 @@
 
 mod offer;
 pub mod theoretical;
-pub mod trade;
 mod walk;
 
 pub use theoretical::{Theoretical, theoretical_result};
-pub use trade::Trade;

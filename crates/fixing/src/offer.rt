@@ -1,7 +1,8 @@
 // A price that an auction may be fixed at.
-ghost use Rattle.std.specs.Prelude.{◌≡◌, min, Decides};
-ghost use Rattle.fixing.specs.Volumes.{distance};
-ghost use Rattle.fixing.specs.Walks.{Beats};
+ghost use Rattle.std.specs.Prelude.{◌≡◌, ◌↔◌, ◌≤◌, min, IsTrue};
+ghost use Rattle.fixing.specs.Volumes.{distance, most_resting};
+
+use std::cmp::Reverse;
 
 // A price with its demand and its supply.
 #[derive(Clone, Copy)]
@@ -9,9 +10,12 @@ pub struct Offer {
     pub(crate) price: u32,
     pub(crate) demand: u32,
     pub(crate) supply: u32,
+    ghost bounded: { (demand ≤ most_resting) × (supply ≤ most_resting) },
 }
 
 impl Offer {
+    ghost use Rattle.fixing.specs.Walks.{Beats};
+
     pub(crate) fn volume(self) -> u32
         ensures { result ≡ min self.demand self.supply }
     {
@@ -25,21 +29,22 @@ impl Offer {
         self.demand.abs_diff(self.supply)
     }
 
+    // What makes a price better: more volume, then a smaller leftover without sign, then nearer the base, then higher.
+    fn merit(self, base: u32) -> (u32, Reverse<u32>, Reverse<u32>, u32)
+        ensures { result ≡ (min self.demand self.supply, record { 0 = distance self.demand self.supply }, record { 0 = distance self.price base }, self.price) }
+    {
+        (
+            self.volume(),
+            Reverse(self.imbalance()),
+            Reverse(self.price.abs_diff(base)),
+            self.price,
+        )
+    }
+
     // Whether this price is better than the other.
     pub(crate) fn beats(self, other: Offer, base: u32) -> bool
-        ensures { Decides result (Beats self other base) }
+        ensures { IsTrue result ↔ Beats self other base }
     {
-        if self.volume() != other.volume() {
-            return self.volume() > other.volume();
-        }
-        if self.imbalance() != other.imbalance() {
-            return self.imbalance() < other.imbalance();
-        }
-        let own = self.price.abs_diff(base);
-        let others = other.price.abs_diff(base);
-        if own != others {
-            return own < others;
-        }
-        self.price > other.price
+        self.merit(base) > other.merit(base)
     }
 }

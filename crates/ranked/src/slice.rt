@@ -1,5 +1,6 @@
 // Search, insertion and removal by rank, over a slice that the caller lends. The records stand at its front, in rank order,
 // and their number goes along; what lies behind them is left as it is.
+// A rule of the project: search, insertion and removal by rank are generic functions over a lent slice and its count.
 ghost use Rattle.std.specs.Prelude.{◌≡◌, ℕ, ◌+◌, ◌-◌, ◌<◌, ◌≤◌, true, false, ◌++◌, length, MatchOption};
 ghost use Rattle.ranked.specs.Ranks.{InsertedByRank, Place, RemovedFrom};
 
@@ -7,14 +8,13 @@ use crate::ranking::Ranking;
 
 // The place of a record among ranked ones: how many of them come before it.
 pub fn place<R, K: Ranking<R>>(ranking: &K, items: &[R], item: &R) -> usize
-    ensures { Place K.Ranking.before items.now item.now result }
+    ensures { Place K.before items.now item.now result }
 {
-    for (i, other) in items.iter().enumerate() {
-        if !ranking.before(other, item) {
-            return i;
-        }
-    }
-    items.len()
+    let rank = ranking.rank(item);
+    items
+        .iter()
+        .take_while(|other| ranking.rank(other) < rank)
+        .count()
 }
 
 // Puts a record among the ranked ones at its place, which is answered; `None` if the slice has no room, and then it is as it was.
@@ -24,12 +24,12 @@ pub fn insert<R: Copy, K: Ranking<R>>(
     count: usize,
     item: R,
 ) -> Option<usize>
-    ensures { MatchOption result ((length slots.old ≤ count) × (slots.new ≡ slots.old)) (λ place. InsertedByRank K.Ranking.before K.Ranking.alike count item slots.old place slots.new) }
+    ensures { MatchOption result ((length slots.old ≤ count) × (slots.new ≡ slots.old)) (λ place. InsertedByRank K.before count item slots.old place slots.new) }
 {
     if count >= slots.len() {
         return None;
     }
-    let place = place(ranking, &slots[0..count], &item);
+    let place = place(ranking, &slots[..count], &item);
     slots.copy_within(place..count, place + 1);
     slots[place] = item;
     Some(place)
@@ -39,10 +39,7 @@ pub fn insert<R: Copy, K: Ranking<R>>(
 pub fn remove<R: Copy>(slots: &mut [R], count: usize, place: usize) -> Option<R>
     ensures { MatchOption result ((place < count → length slots.old < count) × (slots.new ≡ slots.old)) (λ item. RemovedFrom count slots.old place item slots.new) }
 {
-    if place >= count || count > slots.len() {
-        return None;
-    }
-    let item = slots[place];
+    let item = *slots.get(..count)?.get(place)?;
     slots.copy_within(place + 1..count, place);
     Some(item)
 }

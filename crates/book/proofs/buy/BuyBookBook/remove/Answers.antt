@@ -1,10 +1,5 @@
 use Rattle.book.specs.Orders.{buys_before}
-use Rattle.book.specs.Sides.{sound_table}
 use Rattle.book.proofs.buy.BuyBookBook.remove.Goals as goal
 
-pub invariant_of-self : goal.invariant_of-self
-invariant_of-self c =
-    let b = c.args.self.now in
-    let was = sound_table buys_before b.table b.few b.ranked b.apart b.within in
-    let sound = c.remove.ensures.sound buys_before was in
-    record { few = c.remove.ensures.few; ranked = sound.ranked; apart = sound.apart; within = sound.within }
+pub invariant_of-self-clause-sound : goal.invariant_of-self-clause-sound
+invariant_of-self-clause-sound c = c.remove.ensures.sound buys_before c.args.self.now.sound

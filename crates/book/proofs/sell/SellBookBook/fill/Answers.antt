@@ -1,10 +1,6 @@
 use Rattle.book.specs.Orders.{sells_before}
-use Rattle.book.specs.Sides.{sells_keep_rank, sound_table}
+use Rattle.book.proofs.Sides.{sells_keep_rank}
 use Rattle.book.proofs.sell.SellBookBook.fill.Goals as goal
 
-pub invariant_of-self : goal.invariant_of-self
-invariant_of-self c =
-    let b = c.args.self.now in
-    let was = sound_table sells_before b.table b.few b.ranked b.apart b.within in
-    let sound = c.fill.ensures.sound sells_before sells_keep_rank was in
-    record { few = c.fill.ensures.few; ranked = sound.ranked; apart = sound.apart; within = sound.within }
+pub invariant_of-self-clause-sound : goal.invariant_of-self-clause-sound
+invariant_of-self-clause-sound c = c.fill.ensures.sound sells_before sells_keep_rank c.args.self.now.sound

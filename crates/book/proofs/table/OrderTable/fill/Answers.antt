@@ -5,11 +5,8 @@ use Rattle.book.specs.Lists.{filled, remaining}
 use Rattle.book.specs.Tables.{held}
 use Rattle.book.proofs.Filling.{settled_front}
 use Rattle.book.proofs.Shares.{resting-filled}
-use Rattle.book.specs.Sides.{sound_remaining}
+use Rattle.book.proofs.Sides.{sound_remaining}
 use Rattle.book.proofs.table.OrderTable.fill.Goals as goal
-
-pub fills-fills-requires : goal.fills-fills-requires
-fills-fills-requires c = rw c.orders.ensures (omega (arith, length-take c.args.self.now.count c.args.self.now.orders, c.requires))
 
 pub returns : goal.returns
 returns c =

@@ -1,20 +1,17 @@
-use Rattle.std.proofs.Common.{◌≡◌, T, length, refl, subst, arith, rules}
+use Rattle.std.proofs.Common.{◌≡◌, length, arith, rules}
 use Rattle.rules.specs.Limits.{most_orders}
 use Rattle.std.proofs.lemmas.List.{length-take-le}
 use Rattle.book.specs.Lists.{Acceptable}
 use Rattle.book.specs.Tables.{held}
-use Rattle.book.specs.Sides.{none_alike, sound_inserted}
+use Rattle.book.proofs.Sides.{none_alike, sound_inserted}
 use Rattle.book.proofs.table.OrderTable.insert.Goals as goal
 
-pub returns : goal.returns
-returns g c =
+pub returns-clause-sound : goal.returns-clause-sound
+returns-clause-sound g c =
     let t = c.args.self.now in
+    let before = g.K.Ranking.before in
     let done = c.in_ok-place.ensures in
+    let n = length-take-le t.count t.orders (omega (arith, done.room)) in
     let long : length t.orders ≡ most_orders = search rules in
-    let n = length-take-le t.count t.orders (omega arith) in
-    let ok : Acceptable (held t) c.args.order = record { within = subst T c.if-not-within_limits.ensures tt; room = omega (arith, done.room); apart = c.if-not-is_apart.ensures.0 refl } in
-    record {
-      answer = (ok, done.placed, done.front);
-      few = omega (arith, done.room);
-      sound = λ by-stamp sound. rw done.front (sound_inserted g.K.Ranking.before (held t) c.args.order c.in_ok-place.place done.placed.0 sound ok (rw done.front at (done.ranked sound.ranked (none_alike g.K.Ranking.alike by-stamp (held t) c.args.order ok))));
-    }
+    let ok : Acceptable (held t) c.args.order = record { within = search rules; room = omega (arith, done.room); apart = search rules } in
+    λ by_stamp sound. rw done.front (sound_inserted before (held t) c.args.order c.in_ok-place.place done.placed.0 sound ok (rw done.front at (done.ranked sound.ranked (none_alike before by_stamp (held t) c.args.order ok))))
