@@ -33,7 +33,7 @@ impl Band {
         ensures range { result ≡ around tick.value self.low self.high base }
         ensures rounded { Around tick.value self.low self.high base result }
     {
-        // By `as`: a price fits, and `try_from` would add an error that cannot come.
+        // With `as`: a price fits, and `try_from` would answer an error that never comes.
         let base = base as i32;
         (tick.down(base + self.low), tick.up(base + self.high))
     }

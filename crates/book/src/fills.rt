@@ -15,7 +15,7 @@ pub(crate) fn fills(orders: &[Order], volume: u32) -> [u32; MOST_ORDERS]
     let mut fills = [0; MOST_ORDERS];
     let mut left = volume;
     // A rule of the project: a `for` over the ranked orders, with a running remainder.
-    // By place: of an array that a zip of iter_mut wrote, a proof knows no element.
+    // By place: nothing is known of elements that are written through a `zip` of `iter_mut`.
     for (i, order) in orders.iter().enumerate() {
         let fill = left.min(order.quantity);
         fills[i] = fill;

@@ -7,13 +7,11 @@ use crate::order::Order;
 use ranked::Ranking;
 use std::cmp::Reverse;
 
-// The two ranks are the one place where the sides differ.
-
 // The rank of buy orders: the higher price first, then the smaller stamp.
 #[derive(Clone, Copy)]
 pub struct BuyRank;
 
-// The rank of sell orders: the lower price first, then the smaller stamp.
+// The rank of sell orders: the lower price first, then the smaller stamp. It differs from that of buy orders in its key alone.
 #[derive(Clone, Copy)]
 pub struct SellRank;
 

@@ -13,7 +13,7 @@ use crate::order::Order;
 use ranked::{Ranking, insert, remove};
 use rules::MOST_ORDERS;
 
-// What stands where there is no order. It is no Default of an order: no book takes it.
+// What stands where there is no order. It is not the `Default` of an order, since no book takes it.
 const NO_ORDER: Order = Order {
     number: 0,
     stamp: 0,

@@ -37,7 +37,7 @@ impl DailyLimits {
     }
 }
 
-// The trait has a method for each range, so that two of them limit the one below by the same call.
+// The trait has a method for each range, so `buy_range` and `sell_range` have bodies of one shape.
 impl<T: Tunnel> Tunnel for Limited<T> {
     ghost tally = { λ t. T.Tunnel.tally t.below };
 

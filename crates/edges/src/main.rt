@@ -16,7 +16,7 @@ fn split_tape(bundle: &[u8]) -> Option<(&[u8], &[u8])>
     ensures { IfSome result (λ parts. length parts.1.now < length bundle.now) }
 {
     let (length, rest) = bundle.split_first_chunk::<4>()?;
-    // By `as`: there is no From of a u32 for a usize.
+    // With `as`: there is no `From` of a u32 for a usize.
     rest.split_at_checked(u32::from_be_bytes(*length) as usize)
 }
 

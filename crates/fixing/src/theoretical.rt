@@ -18,7 +18,7 @@ pub struct Theoretical {
     pub leftover: i32,
 }
 
-// Nothing trades. It has a name, which a Default would hide.
+// Nothing trades. A constant and no `Default`, since its name says what it means.
 const NO_PRICE: Theoretical = Theoretical {
     price: None,
     volume: 0,
@@ -37,7 +37,7 @@ impl Offer {
         Theoretical {
             price: Some(self.price),
             volume,
-            // By `as`: what a side holds fits, and `try_from` would add an error that cannot come.
+            // With `as`: what a side holds fits, and `try_from` would answer an error that never comes.
             leftover: self.demand as i32 - self.supply as i32,
         }
     }

@@ -79,6 +79,7 @@ impl<'a> Sides<'a> {
         requires { above ≤ length self.now.buys.now }
         ensures { MatchOption result ((above ≡ 0) × (length self.now.sells.now ≤ below)) (λ p. LowestLeft self.now.buys.now self.now.sells.now above below p) }
     {
+        // An arm for each case: an `or` of the two would hide of which side the price is.
         match (self.buys[..above].last(), self.sells.get(below)) {
             (Some(buy), Some(sell)) => Some(buy.price.min(sell.price)),
             (Some(buy), None) => Some(buy.price),

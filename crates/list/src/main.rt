@@ -7,7 +7,7 @@ use std::io;
 use std::io::{Read, Write};
 use tape::listing::listing;
 
-// One byte more than a tape may have is enough to tell that it is too long. By `as`: From is no const fn.
+// One byte more than a tape may have is enough to tell that it is too long. With `as`, since `from` cannot be called in a constant.
 const MOST_READ: u64 = MOST_TAPE_BYTES as u64 + 1;
 
 // The tape that an input holds. An input that is longer than any tape is not read to its end.

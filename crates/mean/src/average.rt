@@ -48,7 +48,7 @@ impl Average {
         ensures value { result ≡ pos (self.value / self.quantity) }
         ensures bound { result ≤ℤ pos greatest_price }
     {
-        // By `as`, here and below: a price fits, and `try_from` would add an error that cannot come.
+        // With `as`, here and below: a price or a half-width fits, and `try_from` would answer an error that never comes.
         (self.value / self.quantity) as i32
     }
 

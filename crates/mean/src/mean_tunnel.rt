@@ -27,7 +27,7 @@ impl MeanTunnel {
         ensures empty { IfOk result (λ tunnel. Remembers settlement tunnel.summary []) }
     {
         let tick = Tick::new(tick).ok_or(Refusal::TunnelOutsideLimits)?;
-        let half_widths = 1..=GREATEST_BAND as u32;
+        let half_widths = 1..=GREATEST_BAND.unsigned_abs();
         let prices = 1..=GREATEST_PRICE;
         if !half_widths.contains(&half_width) || !prices.contains(&settlement) {
             return Err(Refusal::TunnelOutsideLimits);

@@ -23,7 +23,7 @@ impl MeanTunnel {
     }
 }
 
-// Buy and sell orders have one range, so that two methods of the trait are the same call.
+// The trait has a method for each range, so `buy_range` and `sell_range` have one body.
 impl Tunnel for MeanTunnel {
     ghost tally = { λ t. t.summary.tally };
 

@@ -9,7 +9,6 @@ use daily::DailyLimits;
 use mean::MeanTunnel;
 use outside::LastPriceTunnel;
 use rules::Refusal;
-use std::alloc::Global;
 use std::error::Error;
 use std::io::Read;
 use std::str::{FromStr, SplitWhitespace};
@@ -24,8 +23,9 @@ mod tests;
 enum Line {
     Band {
         tick: u32,
-        // low and high for buy orders, sell orders, auctions
-        bands: [(i32, i32); 3],
+        buy: (i32, i32),
+        sell: (i32, i32),
+        auction: (i32, i32),
     },
     Mean {
         tick: u32,
@@ -71,7 +71,9 @@ impl FromStr for Line {
         let line = match word(words)? {
             "band" => Line::Band {
                 tick: number(words)?,
-                bands: [distances(words)?, distances(words)?, distances(words)?],
+                buy: distances(words)?,
+                sell: distances(words)?,
+                auction: distances(words)?,
             },
             "mean" => Line::Mean {
                 tick: number(words)?,
@@ -135,8 +137,8 @@ fn answer<T: Tunnel + Drop>(rt: &impl Print, mut tunnel: T, block: &str) -> anyh
 }
 
 // The limits of the block that are not refused, the lower layer first, two at most.
-fn layers_of(rt: &impl Print, alloc: Global, block: &str) -> anyhow::Result<Vec<DailyLimits>> {
-    let mut layers = Vec::new(alloc);
+fn layers_of(rt: &(impl Print + AllocGlobal), block: &str) -> anyhow::Result<Vec<DailyLimits>> {
+    let mut layers = Vec::new(rt.alloc());
     for line in block.lines() {
         let Line::Limits { low, high } = line.parse::<Line>()? else {
             continue;
@@ -155,8 +157,7 @@ fn layers_of(rt: &impl Print, alloc: Global, block: &str) -> anyhow::Result<Vec<
 
 // Carries out the block over its tunnel, with its limits laid over it, or tells why there is no tunnel.
 fn run_over<T: Tunnel + Drop>(
-    rt: &impl Print,
-    alloc: Global,
+    rt: &(impl Print + AllocGlobal),
     tunnel: Result<T, Refusal>,
     block: &str,
 ) -> anyhow::Result<()> {
@@ -165,42 +166,43 @@ fn run_over<T: Tunnel + Drop>(
         Ok(tunnel) => tunnel,
         Err(refusal) => return refused(rt, refusal),
     };
-    match layers_of(rt, alloc, block)?.as_slice() {
+    match layers_of(rt, block)?.as_slice() {
         [] => answer(rt, tunnel, block),
         [limits] => answer(rt, limits.over(tunnel), block),
         [below, above, ..] => answer(rt, above.over(below.over(tunnel)), block),
     }
 }
 
-fn band_tunnel(tick: u32, bands: [(i32, i32); 3]) -> Result<BandTunnel, Refusal> {
-    let [buy, sell, auction] = bands;
-    BandTunnel::new(
-        tick,
-        Band::new(buy.0, buy.1)?,
-        Band::new(sell.0, sell.1)?,
-        Band::new(auction.0, auction.1)?,
-    )
+fn band((low, high): (i32, i32)) -> Result<Band, Refusal> {
+    Band::new(low, high)
 }
 
-fn run_block(rt: &impl Print, alloc: Global, block: &str) -> anyhow::Result<()> {
+fn band_tunnel(
+    tick: u32,
+    buy: (i32, i32),
+    sell: (i32, i32),
+    auction: (i32, i32),
+) -> Result<BandTunnel, Refusal> {
+    BandTunnel::new(tick, band(buy)?, band(sell)?, band(auction)?)
+}
+
+fn run_block(rt: &(impl Print + AllocGlobal), block: &str) -> anyhow::Result<()> {
     let Some(first) = block.lines().next() else {
         return Ok(());
     };
     match first.parse::<Line>()? {
-        Line::Band { tick, bands } => run_over(rt, alloc, band_tunnel(tick, bands), block),
+        Line::Band {
+            tick,
+            buy,
+            sell,
+            auction,
+        } => run_over(rt, band_tunnel(tick, buy, sell, auction), block),
         Line::Mean {
             tick,
             half_width,
             settlement,
-        } => run_over(
-            rt,
-            alloc,
-            MeanTunnel::new(tick, half_width, settlement),
-            block,
-        ),
-        Line::Last { width, first } => {
-            run_over(rt, alloc, Ok(LastPriceTunnel::new(width, first)), block)
-        }
+        } => run_over(rt, MeanTunnel::new(tick, half_width, settlement), block),
+        Line::Last { width, first } => run_over(rt, Ok(LastPriceTunnel::new(width, first)), block),
         _ => bail!("a block begins with no tunnel"),
     }
 }
@@ -209,7 +211,7 @@ fn main(rt: HostRuntime) -> anyhow::Result<()> {
     let mut script = String::new(rt.alloc());
     rt.stdin().read_to_string(&mut script)?;
     for block in script.as_str().split("\n\n") {
-        run_block(&rt, rt.alloc(), block)?;
+        run_block(&rt, block)?;
     }
     Ok(())
 }

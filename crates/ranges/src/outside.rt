@@ -29,7 +29,7 @@ impl LastPriceTunnel {
 }
 
 // An outside maker's tunnel shares no code with the kinds, so its day start and its tally are its own.
-// Buy and sell orders have one range, so that two methods of the trait are the same call.
+// The trait has a method for each range, so `buy_range` and `sell_range` have one body.
 impl Tunnel for LastPriceTunnel {
     ghost tally = { λ t. t.tally };
 

@@ -4,7 +4,7 @@ ghost use Rattle.std.specs.Ordering.{is_lt};
 
 // A way to rank records: of two records, the one of the smaller rank comes first.
 pub trait Ranking<R> {
-    type Rank: Ord + Copy;
+    type Rank: Ord + Drop;
 
     // The rank of a record.
     ghost rank: { R → Self.Rank };

@@ -1,12 +1,13 @@
 // Search, insertion and removal by rank, over a slice that the caller lends. The records stand at its front, in rank order,
 // and their number goes along; what lies behind them is left as it is.
-// A rule of the project: search, insertion and removal by rank are generic functions over a lent slice and its count.
+// A rule of the project asks for this form.
 ghost use Rattle.std.specs.Prelude.{◌≡◌, ℕ, ◌+◌, ◌-◌, ◌<◌, ◌≤◌, true, false, ◌++◌, length, MatchOption};
 ghost use Rattle.ranked.specs.Ranks.{InsertedByRank, Place, RemovedFrom};
 
 use crate::ranking::Ranking;
 
 // The place of a record among ranked ones: how many of them come before it.
+// By a walk, since it promises its answer of any list, and a search by halves only of a ranked one.
 pub fn place<R, K: Ranking<R>>(ranking: &K, items: &[R], item: &R) -> usize
     ensures { Place K.before items.now item.now result }
 {
@@ -26,6 +27,7 @@ pub fn insert<R: Copy, K: Ranking<R>>(
 ) -> Option<usize>
     ensures { MatchOption result ((length slots.old ≤ count) × (slots.new ≡ slots.old)) (λ place. InsertedByRank K.before count item slots.old place slots.new) }
 {
+    // A test and no `get`, since no place is read.
     if count >= slots.len() {
         return None;
     }

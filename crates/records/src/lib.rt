@@ -25,7 +25,7 @@ pub enum Kind {
 #[derive(Clone, Copy, PartialEq, Eq, Debug)]
 pub struct NoSuchLetter(pub u8);
 
-// The ends of the three ranges, as distances from the base price.
+// The ends of the three ranges, as distances from the base price: the six bands of the tape, each by its name.
 #[derive(Clone, Copy, PartialEq, Eq, Debug)]
 pub struct Bands {
     pub buy_low: i32,
@@ -120,7 +120,8 @@ pub const MOST_FIELDS: usize = 11;
 pub type Fields = ArrayVec<Field, MOST_FIELDS>;
 
 impl Kind {
-    // The letter that stands for the kind on the tape. A kind has a length too, so a name tells more than `u8::from`.
+    // The letter that stands for the kind on the tape.
+    // A method, since a kind has a length too and `u8::from` would not say which number it is.
     pub fn letter(self) -> u8
         ensures { result ≡ letter_of self }
     {
@@ -213,7 +214,7 @@ fn row(fields: &[Field]) -> Fields
     Fields::try_from(fields).unwrap()
 }
 
-// Each of these lists the fields of its own struct, in the tape's order.
+// The longer rows. Each struct lists its own fields, in the tape's order.
 
 impl Entry {
     fn fields(self) -> [Field; 3]

@@ -39,7 +39,8 @@ pub enum Refusal {
 }
 
 impl Refusal {
-    // The number that the refusal is told by. No other refusal has it. A name tells more than `u8::from`.
+    // The number that the refusal is told by. No other refusal has it.
+    // A method, since its name says what the number is and `u8::from` would not.
     pub fn number(self) -> u8
         ensures value { result ≡ number self }
         ensures alone { (other : Refusal) → number other ≡ result → other ≡ self }

@@ -13,6 +13,7 @@ pub struct Tick {
 
 impl Tick {
     // The tick of this value, or `None` if the value is outside the limits.
+    // An Option, since which refusal it is depends on whose tick it was to be.
     pub fn new(value: u32) -> Option<Tick>
         ensures within { IsSome result ↔ IsTick value }
         ensures value { IfSome result (λ t. t.value ≡ value) }

@@ -72,7 +72,7 @@ impl Draft {
         ensures { Puts self.now out.old out.new result }
     {
         let bytes = self.bytes();
-        // Of what is written behind a slice's `get_mut`, a proof knows no element.
+        // A test and no `get_mut`: nothing is known of elements that are written through a slice's `get_mut`.
         if out.len() < bytes.len() {
             return Err(Refusal::BufferTooShort);
         }

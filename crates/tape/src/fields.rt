@@ -9,6 +9,7 @@ use records::{Amendment, Bands, Cancellation, Clock, Entry, Group, Kind, Record}
 use std::marker::Model;
 
 // A number that the tape spells in `N` bytes.
+// An impl of one line for each type, since each has a `from_be_bytes` of its own and no trait has it.
 trait Number<const N: usize>: Copy {
     // The number as a field of a record.
     ghost field: { Self → Field };

@@ -139,7 +139,7 @@ pub(crate) fn tape_draft(refusal: Refusal, place: usize) -> Draft
     let mut draft = Draft::new();
     draft.all(b"tape ");
     draft.number(refusal.number());
-    // By `as`: there is no From of a usize.
+    // With `as`: there is no `From` of a usize.
     add_line(&mut draft, b" at", &[place as u64]);
     draft
 }

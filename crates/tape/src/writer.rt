@@ -15,6 +15,7 @@ fn add_field(draft: &mut Draft, field: Field)
     ensures bytes { draft.new ≡ draft.old ++ spelled field }
     ensures bound { length draft.new ≤ length draft.old + 4 }
 {
+    // An arm for each width, since no trait has `to_be_bytes`.
     match field {
         Field::Byte(n) | Field::Form(n) => draft.byte(n),
         Field::Two(n) => draft.all(&n.to_be_bytes()),
@@ -23,7 +24,8 @@ fn add_field(draft: &mut Draft, field: Field)
     }
 }
 
-// Adds all the fields in the bytes that spell them, with nothing between: a line has a blank before each item.
+// Adds all the fields in the bytes that spell them.
+// One loop for fields and for the items of a line would need a closure whose contract is longer than this loop.
 fn add_fields(draft: &mut Draft, fields: &[Field])
     requires { length draft.old + 4 * length fields.now ≤ enough_room }
     ensures { draft.new ≡ draft.old ++ flat_map spelled fields.now }
@@ -41,6 +43,7 @@ fn spelled(record: &Record) -> Draft
 {
     let kind = record.kind();
     let mut draft = Draft::new();
+    // With `as`: a length fits, and `try_from` would answer an error that never comes.
     draft.all(&(kind.length() as u16).to_be_bytes());
     draft.byte(kind.letter());
     add_fields(&mut draft, record.fields().as_slice());
