@@ -21,6 +21,15 @@ impl MeanTunnel {
         let centre = self.summary.centre(second / PERIOD);
         centre.range(self.tick, self.half_width)
     }
+
+    // Forgets the trades. It promises what `start_day` does, so that a wrong day start fails there, and not in a proof that
+    // was written for another text.
+    fn restart(&mut self)
+        ensures started { Starts self.old self.new }
+        ensures range_by_what_counted { RangeByWhatCounted }
+    {
+        self.summary = Summary::start(self.settlement);
+    }
 }
 
 // The trait has a method for each range, so `buy_range` and `sell_range` have one body.
@@ -74,7 +83,7 @@ impl Tunnel for MeanTunnel {
         ensures started { Starts self.old self.new }
         ensures range_by_what_counted { RangeByWhatCounted }
     {
-        self.summary = Summary::start(self.settlement);
+        self.restart();
     }
 
     fn tell(&mut self, trade: ToldTrade) {

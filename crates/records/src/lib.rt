@@ -1,11 +1,9 @@
 // The records of a session tape, with fields as wide as the tape has them.
 #![tactic(auto)]
 
-ghost use Rattle.std.specs.Prelude.{◌≡◌, ◌≤◌, ◌++◌, length, codes, decimal, Some};
+ghost use Rattle.std.specs.Prelude.{◌≡◌, ◌≤◌, ◌++◌, length, take, codes, decimal, Some, MatchOption, ◌≢◌};
 ghost use Rattle.records.specs.Records.{body, fields_of, kind_of, letter_of, length_of, most_fields, IsKindOfLetter, RecordFits};
-ghost use Rattle.arrayvec.specs.ArrayVec.{array_vec_len};
 
-use arrayvec::ArrayVec;
 use std::error::Error;
 use std::fmt;
 
@@ -116,8 +114,13 @@ impl Default for Field {
 // No record has more fields than the group's: in specs/Records.antt, `most_fields`.
 pub const MOST_FIELDS: usize = 11;
 
-// The fields of a record in the tape's order, with no heap.
-pub type Fields = ArrayVec<Field, MOST_FIELDS>;
+// The fields of a record in the tape's order: the first `count` of `items`.
+// An array and a count, since an `ArrayVec` is no `Copy`, and a row can be copied as a record can.
+#[derive(Clone, Copy)]
+pub struct Fields {
+    pub items: [Field; MOST_FIELDS],
+    pub count: usize,
+}
 
 impl Kind {
     // The letter that stands for the kind on the tape.
@@ -126,6 +129,13 @@ impl Kind {
         ensures { result ≡ letter_of self }
     {
         self as u8
+    }
+
+    // The kind that a letter of the tape stands for, if there is one.
+    pub fn of_letter(letter: u8) -> Option<Kind>
+        ensures { MatchOption result ((k : Kind) → letter_of k ≢ letter) (λ k. letter_of k ≡ letter) }
+    {
+        Kind::try_from(letter).ok()
     }
 
     // The length that a record of the kind has on the tape, without the two bytes that tell it.
@@ -190,16 +200,16 @@ impl Record {
 
     // The fields in the tape's order.
     pub fn fields(self) -> Fields
-        ensures count { array_vec_len result ≤ most_fields }
-        ensures items { result.items ≡ fields_of self }
+        ensures count { result.count ≤ most_fields }
+        ensures items { take result.count result.items ≡ fields_of self }
         ensures fits { RecordFits self }
     {
         match self {
-            Record::Group(g) => Fields::from(g.fields()),
+            Record::Group(g) => row(&g.fields()),
             Record::Buy(e) | Record::Sell(e) => row(&e.fields()),
             Record::Amendment(a) => row(&a.fields()),
             Record::Cancellation(x) => row(&[Field::Two(x.member), Field::Four(x.number)]),
-            Record::AuctionCall => Fields::new(),
+            Record::AuctionCall => row(&[]),
             Record::Clock(t) => row(&[Field::Four(t.second), Field::Two(t.draw)]),
         }
     }
@@ -208,10 +218,13 @@ impl Record {
 // The row of these fields.
 fn row(fields: &[Field]) -> Fields
     requires { length fields.now ≤ most_fields }
-    ensures count { array_vec_len result ≤ most_fields }
-    ensures items { result.items ≡ fields.now }
+    ensures count { result.count ≡ length fields.now }
+    ensures items { take result.count result.items ≡ fields.now }
 {
-    Fields::try_from(fields).unwrap()
+    let count = fields.len();
+    let mut items = [Field::default(); MOST_FIELDS];
+    items[..count].copy_from_slice(fields);
+    Fields { items, count }
 }
 
 // The longer rows. Each struct lists its own fields, in the tape's order.

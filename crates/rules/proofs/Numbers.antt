@@ -7,7 +7,7 @@ use Rattle.rules.specs.contracts.refusal.RefusalPartialEq.TheImpl as refusal_eq
 pub same_refusal : (x y : Refusal) → number x ≡ number y → x ≡ y
 same_refusal x y e = search rules
 
--- the derived comparison tells whether two refusals are the same
+-- the comparison tells whether two refusals are the same
 pub refusal_decided : (x y : Refusal) → Decides ((refusal_eq.ghosts).eq x y) (x ≡ y)
 refusal_decided x y = search rules
 

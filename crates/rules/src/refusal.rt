@@ -1,9 +1,11 @@
-ghost use Rattle.std.specs.Prelude.{◌≡◌};
+ghost use Rattle.std.specs.Prelude.{◌≡◌, ◌==◌, Decides};
 ghost use Rattle.rules.specs.Refusals.{number};
 ghost use Rattle.rules.specs.declared.refusal.Refusal.{Refusal};
+ghost use Rattle.std.specs.Cmp.Rules.{comparing};
+ghost use Rattle.std.proofs.Common.{rules};
 
 // Why a call refuses. Each case has the number that it is told by.
-#[derive(Clone, Copy, PartialEq, Eq, Debug)]
+#[derive(Clone, Copy, Debug)]
 pub enum Refusal {
     // caused by whoever builds the market into a product
     TradeListTooShort = 1,
@@ -47,4 +49,23 @@ impl Refusal {
     {
         self as u8
     }
+}
+
+// By hand and not derived: only so can the contract of `==` say that it compares the numbers, and that this tells
+// whether two refusals are the same.
+impl PartialEq for Refusal {
+    ghost eq = { λ x y. number x == number y };
+
+    ghost laws = { Prim.search (comparing, rules) };
+
+    fn eq(&self, other: &Refusal) -> bool
+        ensures eq { result ≡ (number self.now == number other.now) }
+        ensures same { Decides result (self.now ≡ other.now) }
+    {
+        self.number() == other.number()
+    }
+}
+
+impl Eq for Refusal {
+    ghost laws = { Prim.search (comparing, rules) };
 }

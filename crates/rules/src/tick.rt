@@ -37,12 +37,29 @@ impl Tick {
         ensures value { result ≡ down self.value number }
         ensures rounded { RoundedDown self.value number result }
     {
-        let number = i64::from(number);
-        number - number.rem_euclid(i64::from(self.value))
+        self.multiple_below(number)
     }
 
     // The number rounded up: the least multiple of the tick that is at least the number.
     pub fn up(self, number: i32) -> i64
+        ensures value { result ≡ up self.value number }
+        ensures rounded { RoundedUp self.value number result }
+    {
+        self.multiple_above(number)
+    }
+
+    // The two calls above promise what these do, so that a wrong call fails there, and not in a proof
+    // that was written for another text.
+
+    fn multiple_below(self, number: i32) -> i64
+        ensures value { result ≡ down self.value number }
+        ensures rounded { RoundedDown self.value number result }
+    {
+        let number = i64::from(number);
+        number - number.rem_euclid(i64::from(self.value))
+    }
+
+    fn multiple_above(self, number: i32) -> i64
         ensures value { result ≡ up self.value number }
         ensures rounded { RoundedUp self.value number result }
     {

@@ -1,5 +1,5 @@
 // The lines of text, each with its newline, into a buffer that the caller lends.
-ghost use Rattle.std.specs.Prelude.{◌≡◌, ℕ, ◌+◌, ◌*◌, ◌<◌, ◌≤◌, List, ◌++◌, length, decimal};
+ghost use Rattle.std.specs.Prelude.{◌≡◌, ℕ, ◌+◌, ◌*◌, ◌<◌, ◌≤◌, List, [], ◌++◌, length, decimal};
 ghost use Rattle.std.specs.List.{flat_map};
 ghost use Rattle.rules.specs.Refusals.{number};
 ghost use Rattle.tape.specs.Buffers.{Puts, enough_room};
@@ -132,15 +132,23 @@ pub fn auction_started(end: u32, out: &mut [u8]) -> Result<usize, Refusal>
     put_line(b"auction", &[u64::from(end)], out)
 }
 
-// The text of `tape N at PLACE`.
-pub(crate) fn tape_draft(refusal: Refusal, place: usize) -> Draft
-    ensures { result ≡ tape_refused_line (number refusal) place }
+// Puts the text of `tape N at PLACE` into an empty draft.
+pub(crate) fn show_fault(draft: &mut Draft, refusal: Refusal, place: usize)
+    requires { draft.old ≡ [] }
+    ensures { draft.new ≡ tape_refused_line (number refusal) place }
 {
-    let mut draft = Draft::new();
     draft.all(b"tape ");
     draft.number(refusal.number());
     // With `as`: there is no `From` of a usize.
-    add_line(&mut draft, b" at", &[place as u64]);
+    add_line(draft, b" at", &[place as u64]);
+}
+
+// The text of `tape N at PLACE`.
+fn tape_draft(refusal: Refusal, place: usize) -> Draft
+    ensures { result ≡ tape_refused_line (number refusal) place }
+{
+    let mut draft = Draft::new();
+    show_fault(&mut draft, refusal, place);
     draft
 }
 
@@ -151,13 +159,22 @@ pub fn tape_refused(refusal: Refusal, place: usize, out: &mut [u8]) -> Result<us
     tape_draft(refusal, place).put(out)
 }
 
+// Puts the text of a record's line into an empty draft.
+pub(crate) fn show_record(draft: &mut Draft, record: &Record)
+    requires { draft.old ≡ [] }
+    ensures { draft.new ≡ listed_line «record».now }
+{
+    let letter = record.kind().letter();
+    let fields = record.fields();
+    add_line(draft, &[letter], &fields.items[..fields.count]);
+}
+
 // The text of a record's line.
-pub(crate) fn record_draft(record: &Record) -> Draft
+fn record_draft(record: &Record) -> Draft
     ensures { result ≡ listed_line «record».now }
 {
     let mut draft = Draft::new();
-    let letter = record.kind().letter();
-    add_line(&mut draft, &[letter], record.fields().as_slice());
+    show_record(&mut draft, record);
     draft
 }
 

@@ -69,6 +69,20 @@ fn record_at(tape: &[u8], place: usize) -> Result<Record, Refusal>
     Ok(record(kind, &body[1..]))
 }
 
+// What a reader at the place answers, and the place where it stands then.
+fn read_at(tape: &[u8], place: usize) -> (Result<Option<Record>, Refusal>, usize)
+    ensures { Reading tape.now place result.0 result.1 }
+{
+    if place >= tape.len() {
+        return (Ok(None), place);
+    }
+    match record_at(tape, place) {
+        // The length itself takes two bytes.
+        Ok(record) => (Ok(Some(record)), place + 2 + record.kind().length()),
+        Err(refusal) => (Err(refusal), place),
+    }
+}
+
 // A reader is seen as the position where it stands.
 impl<'a> Model for Reader<'a> {
     ghost use Rattle.tape.specs.Readers.{Position};
@@ -112,12 +126,9 @@ impl<'a> Reader<'a> {
         ensures reading { Reading self.old.tape self.old.place result self.new.place }
         ensures same { self.new.tape ≡ self.old.tape }
     {
-        if self.place >= self.tape.len() {
-            return Ok(None);
-        }
-        let record = record_at(self.tape, self.place)?;
-        // The length itself takes two bytes.
-        self.place += 2 + record.kind().length();
-        Ok(Some(record))
+        let Reader { tape, place } = self;
+        let (answer, next) = read_at(tape, *place);
+        *place = next;
+        answer
     }
 }

@@ -46,7 +46,8 @@ fn spelled(record: &Record) -> Draft
     // With `as`: a length fits, and `try_from` would answer an error that never comes.
     draft.all(&(kind.length() as u16).to_be_bytes());
     draft.byte(kind.letter());
-    add_fields(&mut draft, record.fields().as_slice());
+    let fields = record.fields();
+    add_fields(&mut draft, &fields.items[..fields.count]);
     draft
 }
 

@@ -13,8 +13,8 @@ pub returns-in-Err : goal.returns-in-Err
 returns-in-Err c =
     let tape = c.args.tape.now in
     let e = c.in-Err.refusal in
-    let begun = ap (λ l. l ++ c.tape_draft.result) c.requires ∙ c.tape_draft.ensures in
-    IfOk-weaker c.add.result _ _ (λ _ text. subst⁻¹ (TheListing tape) (text ∙ begun) (the_listing tape _ (unopened e c.in-Err.ensures.err))) c.add.ensures
+    let begun = ap (λ l. l ++ tape_refused_line (number e) 0) c.requires in
+    IfOk-weaker c.add_fault.result _ _ (λ _ text. subst⁻¹ (TheListing tape) (text ∙ begun) (the_listing tape _ (unopened e c.in-Err.ensures.err))) c.add_fault.ensures
 
 pub loop-record-preserved : goal.loop-record-preserved
 loop-record-preserved c =
@@ -22,8 +22,7 @@ loop-record-preserved c =
     let next = c.next_record.new.self.place in
     let reads = reads_as c.loop-record.reader.place next c.loop-record.invariant.same (ap (λ o. Ok o) c.in-Ok-Some.field-0-is) c.in-Ok-Some.ensures.reading.reads in
     let more = one_more c.args.tape.now _ _ _ c.loop-record.invariant.listed.1 c.in-Ok-Some.record next reads in
-    let line = ap (λ l. vec_items c.loop-record.text ++ l) c.record_draft.ensures in
-    let lists = subst⁻¹ (λ t. Sofar c.args.tape.now t next records) (c.in_ok-add-in-Ok-Some.ensures ∙ line) more in
+    let lists = subst⁻¹ (λ t. Sofar c.args.tape.now t next records) c.in_ok-add_record-in-Ok-Some.ensures more in
     record { same = c.in-Ok-Some.ensures.same ∙ c.loop-record.invariant.same; listed = (records, lists) }
 
 pub returns-in-Ok-None : goal.returns-in-Ok-None
@@ -39,7 +38,7 @@ returns-in-Err-next_record c =
     let e = c.in-Err-next_record.refusal in
     let next = c.next_record.new.self.place in
     let reads = reads_as {a = Err e} c.loop-record.reader.place next c.loop-record.invariant.same refl c.in-Err-next_record.ensures.reading.reads in
-    let line = ap (λ l. vec_items c.loop-record.text ++ l) (c.tape_draft-in-Err-next_record.ensures ∙ ap (tape_refused_line (number e)) (c.place.ensures ∙ reads.2)) in
-    IfOk-weaker c.add-in-Err-next_record.result _ _
-    (λ _ text. subst⁻¹ (TheListing tape) (text ∙ line) (the_listing tape _ (at_fault tape _ _ _ c.loop-record.invariant.listed.1 e next reads)))
-    c.add-in-Err-next_record.ensures
+    let here = ap (λ p. vec_items c.loop-record.text ++ tape_refused_line (number e) p) (c.place.ensures ∙ reads.2) in
+    IfOk-weaker c.add_fault-in-Err-next_record.result _ _
+    (λ _ text. subst⁻¹ (TheListing tape) (text ∙ here) (the_listing tape _ (at_fault tape _ _ _ c.loop-record.invariant.listed.1 e next reads)))
+    c.add_fault-in-Err-next_record.ensures

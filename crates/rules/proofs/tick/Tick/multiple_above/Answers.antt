@@ -1,7 +1,7 @@
 use Rattle.std.proofs.Common.{arith}
 use Rattle.std.proofs.lemmas.Int.{ints, to_z-of_z}
 use Rattle.rules.proofs.Rounding.{up_rounded}
-use Rattle.rules.proofs.tick.Tick.up.Goals as goal
+use Rattle.rules.proofs.tick.Tick.multiple_above.Goals as goal
 
 pub returns-clause-rounded : goal.returns-clause-rounded
 returns-clause-rounded c =
