@@ -21,8 +21,8 @@ use Rattle.rules.specs.Limits.{most_orders}
 apart_back : (x y : Order) → Apart x y → Apart y x
 apart_back x y (number, stamp) = (λ e. number (sym e), λ e. stamp (sym e))
 
-pub none_alike : (before : Order → Order → Bool) → RanksByStamp before → (xs : List Order) (x : Order) → Acceptable xs x → NoneAlike before xs x
-none_alike before by-stamp xs x ok k d within same = (ok.apart k d within).1 (by-stamp (slice_index_or xs k d) x same)
+pub none_alike : (alike : Order → Order → Type 0) → RanksByStamp alike → (xs : List Order) (x : Order) → Acceptable xs x → NoneAlike alike xs x
+none_alike alike by-stamp xs x ok k d within same = (ok.apart k d within).1 (by-stamp (slice_index_or xs k d) x same)
 
 pub sound_inserted : (before : Order → Order → Bool) (xs : List Order) (x : Order) (place : ℕ) → place ≤ length xs → Sound before xs → Acceptable xs x → Ranked before (insert xs place x) → Sound before (insert xs place x)
 sound_inserted before xs x place fits sound ok ranked =
@@ -134,11 +134,14 @@ buys_alike x y = (λ same. grind (arith, nat_tests), λ same. grind (arith, nat_
 pub sells_alike : (x y : Order) → Alike sells_before x y ↔ SameRank x y
 sells_alike x y = (λ same. grind (arith, nat_tests), λ same. grind (arith, nat_tests))
 
--- so two orders of the same rank have the same stamp
-pub buys_rank_by_stamp : RanksByStamp buys_before
+pub stamp_of_rank : RanksByStamp SameRank
+stamp_of_rank x y same = same.1
+
+-- so two orders of which neither comes before the other have the same stamp
+pub buys_rank_by_stamp : RanksByStamp (Alike buys_before)
 buys_rank_by_stamp x y same = ((buys_alike x y).0 same).1
 
-pub sells_rank_by_stamp : RanksByStamp sells_before
+pub sells_rank_by_stamp : RanksByStamp (Alike sells_before)
 sells_rank_by_stamp x y same = ((sells_alike x y).0 same).1
 
 -- the orders of a table, from what holds of them one by one

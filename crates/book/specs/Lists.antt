@@ -2,7 +2,7 @@
 use Rattle.std.specs.Prelude.{◌≡◌, ℕ, ◌-◌, ◌<◌, ◌≤◌, min, Bool, if◌then◌else◌, List, [], ◌∷◌, length, Some, None, sum_by, sum, Option, ◌≢◌, nat_lt, slice_index, slice_index_or, slice_set}
 use Rattle.std.specs.List.{All, remove}
 use Rattle.rules.specs.Limits.{most_orders}
-use Rattle.ranked.specs.Ranks.{Alike, Pairwise, Ranked}
+use Rattle.ranked.specs.Ranks.{Pairwise, Ranked}
 use Rattle.book.specs.declared.order.Order.{Order}
 use Rattle.book.specs.Orders.{WithinLimits, lessened}
 
@@ -23,9 +23,9 @@ pub record Acceptable (xs : List Order) (x : Order) : Type 0 where
   pub room : length xs < most_orders
   pub apart : All (λ y. Apart y x) xs
 
--- two orders of the same rank have the same stamp
-abbrev pub RanksByStamp : (Order → Order → Bool) → Type 0
-RanksByStamp before = (x y : Order) → Alike before x y → x.stamp ≡ y.stamp
+-- two orders of the same rank have the same stamp, where `alike` says which have the same rank
+abbrev pub RanksByStamp : (Order → Order → Type 0) → Type 0
+RanksByStamp alike = (x y : Order) → alike x y → x.stamp ≡ y.stamp
 
 -- an order with less of its quantity has the rank that it had
 abbrev pub KeepsRank : (Order → Order → Bool) → Type 0

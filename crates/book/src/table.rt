@@ -2,7 +2,7 @@
 ghost use Rattle.std.specs.Prelude.{◌≡◌, ℕ, ◌+◌, ◌-◌, ◌<◌, ◌≤◌, min, Bool, [], length, ◌↔◌, IsTrue, All, MatchOption};
 ghost use Rattle.std.specs.List.{insert, remove};
 ghost use Rattle.rules.specs.Limits.{most_orders};
-ghost use Rattle.ranked.specs.Ranks.{Place};
+ghost use Rattle.ranked.specs.Ranks.{Alike, Place};
 ghost use Rattle.book.specs.Lists.{Acceptable, Apart, At, KeepsRank, RanksByStamp, Sound, filled, reduced, remaining, resting};
 ghost use Rattle.book.specs.Orders.{lessened};
 ghost use Rattle.book.specs.declared.order.Order.{Order};
@@ -61,7 +61,7 @@ impl OrderTable {
         requires { self.old.count ≤ most_orders }
         ensures answer { MatchOption result ((Acceptable (held self.old) order → ⊥) × (self.new ≡ self.old)) (λ place. Acceptable (held self.old) order × Place K.before (held self.old) order place × (held self.new ≡ insert (held self.old) place order)) }
         ensures few { self.new.count ≤ most_orders }
-        ensures sound { RanksByStamp K.before → Sound K.before (held self.old) → Sound K.before (held self.new) }
+        ensures sound { RanksByStamp (Alike K.before) → Sound K.before (held self.old) → Sound K.before (held self.new) }
     {
         if !order.within_limits() || !self.is_apart(order) {
             return None;

@@ -5,4 +5,6 @@ mod offer;
 pub mod theoretical;
 mod walk;
 
+// The trades of a fixing are those that all layers speak of.
+pub use rules::{Trade, trade};
 pub use theoretical::{Theoretical, theoretical_result};

@@ -19,18 +19,18 @@ Place {R} before xs x place =
 abbrev pub Alike : {R : Type 0} → (R → R → Bool) → R → R → Type 0
 Alike before x y = (before x y ≡ false) × (before y x ≡ false)
 
--- none of the records has the rank of this one
-abbrev pub NoneAlike : {R : Type 0} → (R → R → Bool) → List R → R → Type 0
-NoneAlike {R} before xs x = (k : ℕ) (d : R) → k < length xs → Alike before (slice_index_or xs k d) x → ⊥
+-- none of the records has the rank of this one, where `alike` says which have the same
+abbrev pub NoneAlike : {R : Type 0} → (R → R → Type 0) → List R → R → Type 0
+NoneAlike {R} alike xs x = (k : ℕ) (d : R) → k < length xs → alike (slice_index_or xs k d) x → ⊥
 
 -- the record was put at its place among the first `count`, which stay in their order, and in rank order if they were and
 -- none has the same rank; behind them everything is as it was
-pub record InsertedByRank {R : Type 0} (before : R → R → Bool) (count : ℕ) (x : R) (xs : List R) (place : ℕ) (ys : List R) : Type 0 where
+pub record InsertedByRank {R : Type 0} (before : R → R → Bool) (alike : R → R → Type 0) (count : ℕ) (x : R) (xs : List R) (place : ℕ) (ys : List R) : Type 0 where
   pub room : count < length xs
   pub placed : Place before (take count xs) x place
   pub front : take (count + 1) ys ≡ insert (take count xs) place x
   pub behind : drop (count + 1) ys ≡ drop (count + 1) xs
-  pub ranked : Ranked before (take count xs) → NoneAlike before (take count xs) x → Ranked before (take (count + 1) ys)
+  pub ranked : Ranked before (take count xs) → NoneAlike alike (take count xs) x → Ranked before (take (count + 1) ys)
 
 -- the record at this place among the first `count` was taken out; the others stay in their order, and in any rank order
 -- that they were in; behind them everything is as it was

@@ -2,7 +2,7 @@
 // and their number goes along; what lies behind them is left as it is.
 // A rule of the project asks for this form.
 ghost use Rattle.std.specs.Prelude.{◌≡◌, ℕ, ◌+◌, ◌-◌, ◌<◌, ◌≤◌, true, false, ◌++◌, length, MatchOption};
-ghost use Rattle.ranked.specs.Ranks.{InsertedByRank, Place, RemovedFrom};
+ghost use Rattle.ranked.specs.Ranks.{Alike, InsertedByRank, Place, RemovedFrom};
 
 use crate::ranking::Ranking;
 
@@ -11,10 +11,9 @@ use crate::ranking::Ranking;
 pub fn place<R, K: Ranking<R>>(ranking: &K, items: &[R], item: &R) -> usize
     ensures { Place K.before items.now item.now result }
 {
-    let rank = ranking.rank(item);
     items
         .iter()
-        .take_while(|other| ranking.rank(other) < rank)
+        .take_while(|other| ranking.before(other, item))
         .count()
 }
 
@@ -25,7 +24,7 @@ pub fn insert<R: Copy, K: Ranking<R>>(
     count: usize,
     item: R,
 ) -> Option<usize>
-    ensures { MatchOption result ((length slots.old ≤ count) × (slots.new ≡ slots.old)) (λ place. InsertedByRank K.before count item slots.old place slots.new) }
+    ensures { MatchOption result ((length slots.old ≤ count) × (slots.new ≡ slots.old)) (λ place. InsertedByRank K.before (Alike K.before) count item slots.old place slots.new) }
 {
     // A test and no `get`, since no place is read.
     if count >= slots.len() {
