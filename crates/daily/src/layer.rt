@@ -27,7 +27,7 @@ impl DailyLimits {
 
     // What the limits leave of a range of the tunnel below.
     fn limit(self, base: u32, second: u32, below: (i64, i64)) -> (i64, i64)
-        ensures { result ≡ limited self base second below }
+        ensures { result ≡ limited self.low self.high base second below }
     {
         if !askable(base, second) {
             return below;
@@ -41,9 +41,9 @@ impl DailyLimits {
 impl<T: Tunnel> Tunnel for Limited<T> {
     ghost tally = { λ t. T.Tunnel.tally t.below };
 
-    ghost buying = { λ t base second. limited t.limits base second (T.Tunnel.buying t.below base second) };
+    ghost buying = { λ t base second. limited t.limits.low t.limits.high base second (T.Tunnel.buying t.below base second) };
 
-    ghost selling = { λ t base second. limited t.limits base second (T.Tunnel.selling t.below base second) };
+    ghost selling = { λ t base second. limited t.limits.low t.limits.high base second (T.Tunnel.selling t.below base second) };
 
     ghost auction = { λ t base second. T.Tunnel.auction t.below base second };
 

@@ -136,19 +136,35 @@ fn answer<T: Tunnel + Drop>(rt: &impl Print, mut tunnel: T, block: &str) -> anyh
     Ok(())
 }
 
-// The limits of the block that are not refused, the lower layer first, two at most.
-fn layers_of(rt: &(impl Print + AllocGlobal), block: &str) -> anyhow::Result<Vec<DailyLimits>> {
-    let mut layers = Vec::new(rt.alloc());
+// Limits to lay over a tunnel, the lower layer first.
+// An enum and no `Vec`, so that to have layers takes no memory that there might not be.
+#[derive(Clone, Copy)]
+enum Layers {
+    None,
+    One(DailyLimits),
+    Two(DailyLimits, DailyLimits),
+}
+
+impl Layers {
+    fn with(self, limits: DailyLimits) -> anyhow::Result<Layers> {
+        match self {
+            Layers::None => Ok(Layers::One(limits)),
+            Layers::One(below) => Ok(Layers::Two(below, limits)),
+            Layers::Two(_, _) => bail!("a block has three layers"),
+        }
+    }
+}
+
+// The limits of the block that are not refused.
+fn layers_of(rt: &impl Print, block: &str) -> anyhow::Result<Layers> {
+    let mut layers = Layers::None;
     for line in block.lines() {
         let Line::Limits { low, high } = line.parse::<Line>()? else {
             continue;
         };
         // A refusal is printed and the block goes on, so it is no error for `?`.
         match DailyLimits::new(low, high) {
-            Ok(limits) => {
-                ensure!(layers.len() < 2, "a block has three layers");
-                layers.push(limits)?;
-            }
+            Ok(limits) => layers = layers.with(limits)?,
             Err(refusal) => refused(rt, refusal)?,
         }
     }
@@ -157,7 +173,7 @@ fn layers_of(rt: &(impl Print + AllocGlobal), block: &str) -> anyhow::Result<Vec
 
 // Carries out the block over its tunnel, with its limits laid over it, or tells why there is no tunnel.
 fn run_over<T: Tunnel + Drop>(
-    rt: &(impl Print + AllocGlobal),
+    rt: &impl Print,
     tunnel: Result<T, Refusal>,
     block: &str,
 ) -> anyhow::Result<()> {
@@ -166,10 +182,10 @@ fn run_over<T: Tunnel + Drop>(
         Ok(tunnel) => tunnel,
         Err(refusal) => return refused(rt, refusal),
     };
-    match layers_of(rt, block)?.as_slice() {
-        [] => answer(rt, tunnel, block),
-        [limits] => answer(rt, limits.over(tunnel), block),
-        [below, above, ..] => answer(rt, above.over(below.over(tunnel)), block),
+    match layers_of(rt, block)? {
+        Layers::None => answer(rt, tunnel, block),
+        Layers::One(limits) => answer(rt, limits.over(tunnel), block),
+        Layers::Two(below, above) => answer(rt, above.over(below.over(tunnel)), block),
     }
 }
 
@@ -186,7 +202,7 @@ fn band_tunnel(
     BandTunnel::new(tick, band(buy)?, band(sell)?, band(auction)?)
 }
 
-fn run_block(rt: &(impl Print + AllocGlobal), block: &str) -> anyhow::Result<()> {
+fn run_block(rt: &impl Print, block: &str) -> anyhow::Result<()> {
     let Some(first) = block.lines().next() else {
         return Ok(());
     };
